@@ -1,0 +1,4 @@
+-- The laws of literals, clauses and tables.
+pub mod Literals
+pub mod Clauses
+pub mod Checked
