@@ -1,2 +1,3 @@
 -- The ways of going through a row.
 pub mod Ways
+pub mod Letters

@@ -1,0 +1,5 @@
+-- 01, "Gates".
+pub mod Kinds
+pub mod Patterns
+pub mod Taking
+pub mod Circuit

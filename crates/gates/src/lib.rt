@@ -1,0 +1,1 @@
+// The gates, as definitions and their laws: no code.

@@ -1,0 +1,5 @@
+-- 01, "Rounds".
+pub mod Forced
+pub mod Clean
+pub mod Pairs
+pub mod Rounds

@@ -1,0 +1,1 @@
+// The rounds, as definitions and their laws: no code.
