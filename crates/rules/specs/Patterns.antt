@@ -6,8 +6,8 @@ use lib.ListN.{length}
 use lib.Dec.{eqb, ltb}
 use Rattle.ways.specs.Ways.{every, oddly, keep, same, among}
 use Rattle.tables.specs.Literal.{var, neg, opp}
-use Rattle.rounds.specs.Clean.{insert}
-use Rattle.gates.specs.Kinds.{andKind, parityKind}
+use Rattle.rules.specs.Clean.{insert}
+use Rattle.rules.specs.Kinds.{andKind, parityKind}
 
 -- kind: the row of the kind table; output: a variable; inputs: literals by rising variable; pattern: the gate's clauses.
 pub record Gate : Type 0 where

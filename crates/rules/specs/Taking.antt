@@ -7,8 +7,8 @@ use lib.ListN.{length, set, replicate}
 use lib.Dec.{eqb, ltb}
 use Rattle.ways.specs.Ways.{run, some, keep}
 use Rattle.tables.specs.Literal.{var}
-use Rattle.rounds.specs.Forced.{marked}
-use Rattle.gates.specs.Patterns.{Gate, andForm, parity, anchors, found}
+use Rattle.rules.specs.Forced.{marked}
+use Rattle.rules.specs.Patterns.{Gate, andForm, parity, anchors, found}
 
 -- "At each, try the parity group it anchors, each variable as output from the lowest up; then the and-form, each literal as
 -- o, lowest variable first." The literals of a cleaned clause stand by rising variable.

@@ -8,9 +8,9 @@ use lib.Dec.{eqb}
 use Rattle.ways.specs.Ways.{some}
 use Rattle.tables.specs.Literal.{literal}
 use Rattle.tables.specs.Clause.{clauses}
-use Rattle.rounds.specs.Forced.{forced, contradicts}
-use Rattle.rounds.specs.Clean.{clean}
-use Rattle.rounds.specs.Pairs.{pairs, replace, starting, leaders, torn}
+use Rattle.rules.specs.Forced.{forced, contradicts}
+use Rattle.rules.specs.Clean.{clean}
+use Rattle.rules.specs.Pairs.{pairs, replace, starting, leaders, torn}
 
 -- A round ends in a contradiction; or it is the last, with what each variable stands for and the settled table; or it
 -- goes on, with the substituted clauses.

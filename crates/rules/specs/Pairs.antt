@@ -7,7 +7,7 @@ use lib.ListN.{length, getD}
 use lib.Dec.{eqb, ltb}
 use Rattle.ways.specs.Ways.{run, keep, range, among}
 use Rattle.tables.specs.Literal.{var, neg, opp}
-use Rattle.rounds.specs.Forced.{marked}
+use Rattle.rules.specs.Forced.{marked}
 
 -- "(−a b) with (a −b) says a equals b; (a b) with (−a −b) says a equals −b": a clause of two literals x, y, with the one
 -- of their opposites, says that x equals −y.

@@ -5,9 +5,9 @@ use mathlib.Core.List.{List}
 use lib.ListN.{getD, set, replicate}
 use Rattle.ways.specs.Ways.{run, some, keep, among}
 use Rattle.tables.specs.Literal.{var}
-use Rattle.rounds.specs.Pairs.{root}
-use Rattle.gates.specs.Patterns.{Gate}
-use Rattle.gates.specs.Taking.{isOutput}
+use Rattle.rules.specs.Pairs.{root}
+use Rattle.rules.specs.Patterns.{Gate}
+use Rattle.rules.specs.Taking.{isOutput}
 
 -- "The residue is every settled clause in no taken gate's pattern, in order."
 unfoldable pub inPattern : List Gate → List ℕ → Bool

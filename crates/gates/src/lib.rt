@@ -1,1 +1,0 @@
-// The gates, as definitions and their laws: no code.

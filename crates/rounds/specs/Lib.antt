@@ -1,5 +1,0 @@
--- 01, "Rounds".
-pub mod Forced
-pub mod Clean
-pub mod Pairs
-pub mod Rounds

@@ -1,1 +1,0 @@
-// The rounds, as definitions and their laws: no code.
