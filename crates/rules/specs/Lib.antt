@@ -9,3 +9,6 @@ pub mod Taking
 pub mod Circuit
 pub mod Fill
 pub mod Ask
+pub mod Listing
+pub mod Pins
+pub mod Calls
