@@ -4,13 +4,14 @@ use Prim.Native.Nat.{ℕ, zero, suc, _+_, _-_}
 use mathlib.Core.Bool.{Bool, true, false, _&&_, _||_}
 use mathlib.Core.List.{List, [], _∷_, _++_}
 use lib.IntN.{ℤ, pos}
-use lib.ListN.{length, getD, drop, replicate}
+use lib.ListN.{length, getD, replicate}
 use lib.Dec.{eqb, leb, ltb}
 use Rattle.ways.specs.Ways.{some, keep, range}
 use Rattle.tables.specs.Sizes.{mostPins, workRoom}
 use Rattle.tables.specs.Check.{checked}
 use Rattle.tables.specs.declared.Verdict.{Verdict}
 use Rattle.tables.specs.declared.Verdict.the-variants.{Accepted, Refused}
+use Rattle.texts.specs.Buffer.{front}
 use Rattle.rules.specs.Rounds.{Outcome, impossible, settled, outcome, pinned}
 use Rattle.rules.specs.Patterns.{Gate}
 use Rattle.rules.specs.Taking.{taken}
@@ -31,10 +32,10 @@ unfoldable pub refuse : Bool → ℕ → ℕ → Verdict
 refuse true number place = Refused number place
 refuse false number place = Accepted
 
-unfoldable pub firstOf : List Verdict → Verdict
-firstOf [] = Accepted
-firstOf (Accepted ∷ more) = firstOf more
-firstOf (Refused number place ∷ more) = Refused number place
+unfoldable pub firstRefusal : List Verdict → Verdict
+firstRefusal [] = Accepted
+firstRefusal (Accepted ∷ more) = firstRefusal more
+firstRefusal (Refused number place ∷ more) = Refused number place
 
 -- "9; 6 if the lent book's length is above 64; 5 if a held pin is 0 or beyond n"
 unfoldable pub workShort : ℕ → Verdict
@@ -73,9 +74,9 @@ listed n (settled r st cs) = listing n r st cs (taken n cs)
 
 -- "A refusal leaves result buffers and pin book as found. .. An accepted call writes the front of its result buffer and
 -- nothing behind it". "Every lent work buffer is all zero after every call."
-unfoldable pub front : Verdict → List ℕ → List ℕ → List ℕ
-front Accepted bytes buffer = bytes ++ drop (length bytes) buffer
-front (Refused number place) bytes buffer = buffer
+unfoldable pub leaves : Verdict → List ℕ → List ℕ → List ℕ
+leaves Accepted bytes buffer = front bytes buffer
+leaves (Refused number place) bytes buffer = buffer
 
 unfoldable pub wiped : List ℤ → List ℤ
 wiped work = replicate (length work) (pos 0)
@@ -85,7 +86,7 @@ wiped work = replicate (length work) (pos 0)
 unfoldable pub buildVerdict : ℕ → List ℤ → Book → ℕ → ℕ → Verdict
 buildVerdict n t b work room =
     let bytes = length (listed n (outcomeOf n t b)) in
-    firstOf (checked n t ∷ workShort work ∷ bookLong b ∷ heldBad n b ∷ contradiction (outcomeOf n t b) ∷ refuse (ltb room bytes) 8 bytes ∷ [])
+    firstRefusal (checked n t ∷ workShort work ∷ bookLong b ∷ heldBad n b ∷ contradiction (outcomeOf n t b) ∷ refuse (ltb room bytes) 8 bytes ∷ [])
 
 unfoldable pub builtAs : ℕ → ℕ → Verdict → Built
 builtAs rounds bytes Accepted = built.Accepted rounds bytes
@@ -95,7 +96,7 @@ unfoldable pub build : ℕ → List ℤ → Book → ℕ → ℕ → Built
 build n t b work room = let o = outcomeOf n t b in builtAs (roundsIn o) (length (listed n o)) (buildVerdict n t b work room)
 
 unfoldable pub buildListing : ℕ → List ℤ → Book → ℕ → List ℕ → List ℕ
-buildListing n t b work buffer = front (buildVerdict n t b work (length buffer)) (listed n (outcomeOf n t b)) buffer
+buildListing n t b work buffer = leaves (buildVerdict n t b work (length buffer)) (listed n (outcomeOf n t b)) buffer
 
 -- "10 | value of a free variable neither 0 nor 1 | the lowest such variable"
 unfoldable pub badValues : ℕ → Outcome → List ℕ → List ℕ
@@ -107,19 +108,19 @@ badValue vs = refuse (ltb 0 (length vs)) 10 (getD vs 0 0)
 -- "Fill: as a build up to 4, then 8 (given values or result under n bytes, room n), then 10."
 unfoldable pub fillVerdict : ℕ → List ℤ → Book → ℕ → List ℕ → ℕ → Verdict
 fillVerdict n t b work given room =
-    firstOf (checked n t ∷ workShort work ∷ bookLong b ∷ heldBad n b ∷ contradiction (outcomeOf n t b)
-      ∷ refuse (ltb (length given) n || ltb room n) 8 n ∷ badValue (badValues n (outcomeOf n t b) given) ∷ [])
+    firstRefusal (checked n t ∷ workShort work ∷ bookLong b ∷ heldBad n b ∷ contradiction (outcomeOf n t b)
+    ∷ refuse (ltb (length given) n || ltb room n) 8 n ∷ badValue (badValues n (outcomeOf n t b) given) ∷ [])
 
 unfoldable pub fillValues : ℕ → List ℤ → Book → ℕ → List ℕ → List ℕ → List ℕ
 fillValues n t b work given buffer =
     let o = outcomeOf n t b in
-    front (fillVerdict n t b work given (length buffer)) (filled n (standsIn o) (gatesIn n o) given) buffer
+    leaves (fillVerdict n t b work given (length buffer)) (filled n (standsIn o) (gatesIn n o) given) buffer
 
 -- "Ask: as fill without a result buffer, with 5 for variable 0 or beyond n after 3."
 unfoldable pub askVerdict : ℕ → List ℤ → Book → ℕ → List ℕ → ℕ → Verdict
 askVerdict n t b work given v =
-    firstOf (checked n t ∷ refuse (eqb v 0 || ltb n v) 5 0 ∷ workShort work ∷ bookLong b ∷ heldBad n b ∷ contradiction (outcomeOf n t b)
-      ∷ refuse (ltb (length given) n) 8 n ∷ badValue (badValues n (outcomeOf n t b) given) ∷ [])
+    firstRefusal (checked n t ∷ refuse (eqb v 0 || ltb n v) 5 0 ∷ workShort work ∷ bookLong b ∷ heldBad n b ∷ contradiction (outcomeOf n t b)
+    ∷ refuse (ltb (length given) n) 8 n ∷ badValue (badValues n (outcomeOf n t b) given) ∷ [])
 
 unfoldable pub askedAs : Bool → Verdict → Asked
 askedAs value Accepted = answer.Accepted value
@@ -132,8 +133,8 @@ ask n t b work given v =
 -- "A pin: 2, 3, 9, 6 for a length above 64, 5 for held pins, 5 for the new one, 6 if 64 are held, 4."
 unfoldable pub pinVerdict : ℕ → List ℤ → Book → ℕ → ℤ → Verdict
 pinVerdict n t b work x =
-    firstOf (checked n t ∷ workShort work ∷ bookLong b ∷ heldBad n b ∷ refuse (outOfRange n x) 5 0 ∷ refuse (leb mostPins (b .held)) 6 mostPins
-      ∷ contradiction (outcome n (pinned t (inForce b ++ (x ∷ [])))) ∷ [])
+    firstRefusal (checked n t ∷ workShort work ∷ bookLong b ∷ heldBad n b ∷ refuse (outOfRange n x) 5 0 ∷ refuse (leb mostPins (b .held)) 6 mostPins
+    ∷ contradiction (outcome n (pinned t (inForce b ++ (x ∷ [])))) ∷ [])
 
 unfoldable pub bookedAs : Book → ℤ → Verdict → Booked
 bookedAs b x Accepted = record { verdict = Accepted; book = withPin b x }

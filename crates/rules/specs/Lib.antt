@@ -12,3 +12,5 @@ pub mod Ask
 pub mod Listing
 pub mod Pins
 pub mod Calls
+pub mod Program
+pub mod Evenings

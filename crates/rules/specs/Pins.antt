@@ -34,7 +34,9 @@ withoutLast b = record { pins = set (b .pins) (b .held - 1) (pos 0); held = b .h
 unfoldable pub takeBack : Book → Booked
 takeBack b =
     elim (eqb (b .held) 0) [
-      true ↦ record { verdict = Refused 7 0; book = b }
-    | false ↦ elim (ltb mostPins (b .held)) [
-        true ↦ record { verdict = Refused 6 mostPins; book = b }
-      | false ↦ record { verdict = Accepted; book = withoutLast b } ] ]
+      | true ↦ record { verdict = Refused 7 0; book = b }
+      | false ↦ elim (ltb mostPins (b .held)) [
+        | true ↦ record { verdict = Refused 6 mostPins; book = b }
+        | false ↦ record { verdict = Accepted; book = withoutLast b }
+      ]
+    ]
