@@ -1,0 +1,2 @@
+-- What the theorems about the rounds speak of.
+pub mod Sets
