@@ -58,3 +58,16 @@ anchors cs c = ltb (length c) 6 && same (firstOf (group c) cs) c
 -- All of a gate's clauses are in the table.
 unfoldable pub found : List (List ℕ) → Gate → Bool
 found cs g = every (λ c. among c cs) (g .pattern)
+
+-- "each gate written out again as clauses": from its kind, output and inputs alone. The output literal is positive for the
+-- kinds and, nor, cg, and negative for or, nand, dg; with it the anchor has the opposites of the ai.
+unfoldable pub outputLiteral : Gate → ℕ
+outputLiteral g = cond (ltb (g .kind) 3) (2 * g .output) (2 * g .output + 1)
+
+unfoldable pub anchorRest : Gate → List ℕ
+anchorRest g = cond (ltb (g .kind) 3) (map opp (g .inputs)) (g .inputs)
+
+unfoldable pub writtenOut : Gate → List (List ℕ)
+writtenOut g =
+    cond (ltb (g .kind) 6) (insert (outputLiteral g) (anchorRest g) ∷ map (side (outputLiteral g)) (anchorRest g))
+    (signings (insert (g .output) (map var (g .inputs))) (eqb (g .kind) 6))

@@ -106,6 +106,10 @@ pub var-one : (l : ℕ) → (l ≡ 0 → ⊥) → (l ≡ 1 → ⊥) → 1 ≤ va
 unfolding var
 var-one l h k = omega arith
 
+pub var-mono : (x y : ℕ) → x < y → var x ≤ var y
+unfolding var
+var-mono x y h = omega arith
+
 pub high-literal : (l n : ℕ) → var l ≤ n → l < 2 * n + 2
 unfolding var
 high-literal l n h = omega arith

@@ -1,0 +1,1 @@
+// Theorems about the gates: no code.
