@@ -7,3 +7,4 @@ pub mod Filled
 pub mod Levels
 pub mod Written
 pub mod Taken
+pub mod Shared

@@ -3,7 +3,7 @@
 use Prim.Native.Nat.{ℕ, _+_, _*_, _≤_, _<_}
 use mathlib.Core.Path.{_≡_, refl, sym, ap, _∙_, subst}
 use mathlib.Core.Bool.{Bool, true, false, cond, not}
-use mathlib.Core.List.{List, [], _∷_, _++_, map, List·Memᴰ, List·Memᴰ·head, List·Memᴰ·tail, List·Memᴰ·not-nil, List·Memᴰ·cases-cons, List·Memᴰ·append-cases, List·Memᴰ·eq-of-singleton, Memᴰ·cast}
+use mathlib.Core.List.{List, [], _∷_, _++_, map, List·Memᴰ, List·Memᴰ·head, List·Memᴰ·tail, List·Memᴰ·not-nil, List·Memᴰ·cases-cons, List·Memᴰ·append-cases, List·Memᴰ·eq-of-singleton, Memᴰ·map, Memᴰ·cast}
 use mathlib.Core.Logic.{_⊎_, inl, inr, ⊎-elim}
 use native.Mathlib.Omega.{arith}
 use lib.Dec.{eqb, ltb}
@@ -11,7 +11,7 @@ use borrow.Author.Tests.{eqb-true, eqb-false, eq-eqb, ne-eqb, lt-ltb, le-ltb, no
 use Rattle.ways.specs.Ways.{every, keep}
 use Rattle.ways.proofs.Bools.{clash-of}
 use Rattle.ways.proofs.Rows.{in-keep, keep-in}
-use Rattle.ways.proofs.Members.{map-mem, mem-map}
+use Rattle.ways.proofs.Members.{map-mem}
 use Rattle.tables.specs.Literal.{var, neg, opp}
 use Rattle.tables.proofs.Literals.{var-pos, var-neg, var-mono, var-opp, opp-opp, two-forms, neg-pos, neg-neg}
 use Rattle.rules.specs.Clean.{insert}
@@ -52,7 +52,7 @@ module _ (c : List ℕ) (o : ℕ) where
     where
       go : (b : Bool) → (x : ℕ) × List·Memᴰ x (cond b (others o c) (map opp (others o c))) × (var x ≡ var l)
       go true = (l, i, refl)
-      go false = (opp l, mem-map opp (others o c) l i, var-opp l)
+      go false = (opp l, Memᴰ·map opp i, var-opp l)
 
   module _ (i : List·Memᴰ o c) where
     side-only : (y l : ℕ) → List·Memᴰ l (side o y) → (var l ≡ var o) ⊎ (var l ≡ var y)
@@ -96,10 +96,10 @@ module _ (c : List ℕ) (o : ℕ) (i : List·Memᴰ o c) where
   parity-speaks =
       record {
         output-in = λ d k. let e = signing-vars (map var c) (odd c) d k in
-            let (l, j, q) = map-mem var d (var o) (subst (List·Memᴰ (var o)) (sym e) (mem-map var c o i)) in (l, j, sym q);
+            let (l, j, q) = map-mem var d (var o) (subst (List·Memᴰ (var o)) (sym e) (Memᴰ·map var i)) in (l, j, sym q);
         only = λ d k l j. let e = signing-vars (map var c) (odd c) d k in
-            let (x, h, q) = map-mem var c (var l) (subst (List·Memᴰ (var l)) e (mem-map var d l j)) in
-            ⊎-elim (λ r. inl (q ∙ ap var r)) (λ r. inr (2 * var x, mem-map (λ y. 2 * var y) (others o c) x r, var-pos (var x) ∙ sym q)) (split-other c o x h);
+            let (x, h, q) = map-mem var c (var l) (subst (List·Memᴰ (var l)) e (Memᴰ·map var j)) in
+            ⊎-elim (λ r. inl (q ∙ ap var r)) (λ r. inr (2 * var x, Memᴰ·map (λ y. 2 * var y) r, var-pos (var x) ∙ sym q)) (split-other c o x h);
       }
 
 -- A rising row without one of its elements, and that element put back.

@@ -1,7 +1,7 @@
 -- The rounds together: the settled table, the fixed values and the links are satisfied by exactly the assignments that
 -- satisfy the table; a contradiction by none.
 use Prim.Native.Nat.{ℕ, zero, suc, _+_, _*_, _≤_}
-use mathlib.Core.Path.{_≡_, refl, sym, ap, _∙_}
+use mathlib.Core.Path.{_≡_, refl, sym, ap, _∙_, subst}
 use mathlib.Core.Bool.{Bool, true, false, cond, _||_}
 use mathlib.Core.List.{List, [], _∷_, map}
 use mathlib.Core.Logic.{_⊎_, _↔_}
@@ -12,7 +12,7 @@ use Rattle.ways.specs.Ways.{some, range}
 use Rattle.ways.proofs.Members.{range-size}
 use Rattle.tables.specs.Literal.{var, holds}
 use Rattle.tables.specs.Clause.{satisfiesAll}
-use Rattle.tables.proofs.Literals.{holds-pos}
+use Rattle.tables.proofs.Literals.{var-pos, holds-pos}
 use Rattle.tables.proofs.Clauses.{All, maps-hold}
 use Rattle.tables.proofs.Checked.{Inside}
 use Rattle.rules.specs.Forced.{marked, clash, empty, contradicts, forced}
@@ -104,7 +104,7 @@ own n (suc v) = row-own 1 n v (2 * suc v) (omega arith)
 
 pub first-good : (n : ℕ) (cs : List (List ℕ)) → Inside n cs → Good n (starting n []) cs
 unfolding starting
-first-good n cs h = record { size = ap suc (length-map (range 1 n) (alone []) ∙ range-size 1 n); none = own n 0; rooted = λ v. own n (var (stands (starting n []) v)); over = λ c i l k. (own n (var l), h c i l k .0, h c i l k .1) }
+first-good n cs h = record { size = ap suc (length-map (range 1 n) (alone []) ∙ range-size 1 n); none = own n 0; rooted = λ v. own n (var (stands (starting n []) v)); within = λ v h. subst (λ l. var l ≤ n) (sym (own n v)) (subst (λ u. u ≤ n) (sym (var-pos v)) h); over = λ c i l k. (own n (var l), h c i l k .0, h c i l k .1) }
 
 -- the settled table, the values and the links together have exactly the models of the table; a contradiction has none
 abbrev pub Means : ℕ → (ℕ → Bool) → List (List ℕ) → Outcome → Type 0

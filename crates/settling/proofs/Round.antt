@@ -43,6 +43,7 @@ pub record Good (n : ℕ) (st : List ℕ) (cs : List (List ℕ)) : Type 0 where
   pub size : length st ≡ suc n
   pub none : Root st 0
   pub rooted : Rooted st
+  pub within : (v : ℕ) → v ≤ n → var (stands st v) ≤ n
   pub over : All (λ l. Root st (var l) × (1 ≤ var l) × (var l ≤ n)) cs
 
 pub record Live (n : ℕ) (st s₀ : List ℕ) (v : ℕ) : Type 0 where
@@ -120,6 +121,12 @@ module _ (n : ℕ) (st : List ℕ) (cs : List (List ℕ)) (good : Good n st cs) 
       let e : var (stands st′ v) ≡ u = ap var (new-at v) ∙ var-replace s (stands st v) in
       subst (Root st′) (sym e) (new-root u (roots-inv .inside w (good .rooted v)) (roots-inv .rooted w))
 
+  bounded : Inv (λ v. v ≤ n) s₀ s
+  bounded = leaders-inv (λ v. v ≤ n) (λ v h k. omega arith) (λ c i l k. ds-live c i l k .high)
+
+  new-within : (v : ℕ) → v ≤ n → var (stands st′ v) ≤ n
+  new-within v h = subst (λ u. u ≤ n) (sym (ap var (new-at v) ∙ var-replace s (stands st v))) (bounded .inside (var (stands st v)) (good .within v h))
+
   new-over : All (λ l. Root st′ (var l) × (1 ≤ var l) × (var l ≤ n)) (map (map (replace s)) ds)
   new-over c i l k =
       let (d, j, e) = map-mem (map (replace s)) ds c i in
@@ -133,7 +140,7 @@ module _ (n : ℕ) (st : List ℕ) (cs : List (List ℕ)) (good : Good n st cs) 
   zero-stays = roots-inv .const 0 (rw (zero-root n m) (omega arith)) ∙ zero-root n m
 
   pub next-good : Good n st′ (map (map (replace s)) ds)
-  next-good = record { size = length-map st (replace s) ∙ good .size; none = new-root 0 (good .none) zero-stays; rooted = new-rooted; over = new-over }
+  next-good = record { size = length-map st (replace s) ∙ good .size; none = new-root 0 (good .none) zero-stays; rooted = new-rooted; within = new-within; over = new-over }
 
   -- where no pair is found the settled clauses speak of roots only
   pub last-good : eqb (length (pairs ds)) 0 ≡ true → Good n st′ ds
@@ -142,7 +149,7 @@ module _ (n : ℕ) (st : List ℕ) (cs : List (List ℕ)) (good : Good n st cs) 
       record {
         size = length-map st (replace s) ∙ good .size;
         none = new-root 0 (good .none) zero-stays;
-        rooted = new-rooted;
+        rooted = new-rooted; within = new-within;
         over = λ c i l k. let r = ds-live c i l k in (new-root (var l) (r .here) (ap (λ t. stands t (var l)) (still (pairs ds) e) ∙ r .loose), r .low, r .high);
       }
     where

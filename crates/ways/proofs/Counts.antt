@@ -6,7 +6,7 @@ use mathlib.Core.List.{List, [], _∷_, List·Memᴰ, List·Memᴰ·head, List·
 use native.Mathlib.Omega.{arith}
 use lib.ListN.{length}
 use Rattle.ways.specs.Ways.{keep}
-use Rattle.ways.proofs.Bools.{clash-of}
+use Rattle.ways.proofs.Bools.{clash-of, is-false}
 
 pub keep-le : {X : Type 0} (p : X → Bool) (xs : List X) → length (keep p xs) ≤ length xs
 unfolding keep
@@ -16,6 +16,12 @@ keep-le p (x ∷ xs) = go (p x) (keep-le p xs)
     go : (b : Bool) → length (keep p xs) ≤ length xs → length (cond b (x ∷ keep p xs) (keep p xs)) ≤ suc (length xs)
     go true h = omega arith
     go false h = omega arith
+
+-- A test that nothing passes keeps nothing.
+pub keep-none : {X : Type 0} (p : X → Bool) (xs : List X) → ((x : X) → List·Memᴰ x xs → p x ≡ true → ⊥) → keep p xs ≡ []
+unfolding keep
+keep-none p [] h = refl
+keep-none p (x ∷ xs) h = rw (is-false (p x) (h x (List·Memᴰ·head refl))) (keep-none p xs (λ y i. h y (List·Memᴰ·tail i)))
 
 -- A test that passes less counts less.
 module _ {X : Type 0} (p q : X → Bool) (less : (x : X) → q x ≡ true → p x ≡ true) where

@@ -1,8 +1,8 @@
 -- Laws of membership: in rows of numbers, in rows of rows, in ranges, and at a place.
 use Prim.Native.Nat.{ℕ, zero, suc, _+_, _≤_, _<_}
-use mathlib.Core.Path.{_≡_, refl, sym, ap, _∙_}
+use mathlib.Core.Path.{_≡_, refl, sym, ap, _∙_, subst}
 use mathlib.Core.Bool.{Bool, true, false, _&&_}
-use mathlib.Core.List.{List, [], _∷_, map, List·Memᴰ, List·Memᴰ·head, List·Memᴰ·tail, List·Memᴰ·not-nil, Memᴰ·cast}
+use mathlib.Core.List.{List, [], _∷_, _++_, map, flatMap, List·Memᴰ, List·Memᴰ·head, List·Memᴰ·tail, List·Memᴰ·not-nil, List·Memᴰ·append-cases, Memᴰ·append-left, Memᴰ·append-right, Memᴰ·of-map, Memᴰ·cast}
 use mathlib.Core.Logic.{_⊎_, inl, inr, ⊎-elim}
 use native.Mathlib.Omega.{arith}
 use lib.ListN.{length, getD}
@@ -45,12 +45,19 @@ mem-among c cs m = in-some (same c) cs c m (same-self c)
 
 -- What stands in a mapped row comes from the row.
 pub map-mem : {X Y : Type 0} (f : X → Y) (xs : List X) (y : Y) → List·Memᴰ y (map f xs) → (x : X) × List·Memᴰ x xs × (y ≡ f x)
-map-mem f (x ∷ xs) y (List·Memᴰ·head e) = (x, List·Memᴰ·head refl, e)
-map-mem f (x ∷ xs) y (List·Memᴰ·tail i) = let (z, j, e) = map-mem f xs y i in (z, List·Memᴰ·tail j, e)
+map-mem f xs y i = let (x, j, e) = Memᴰ·of-map f xs i in (x, j, sym e)
 
-pub mem-map : {X Y : Type 0} (f : X → Y) (xs : List X) (x : X) → List·Memᴰ x xs → List·Memᴰ (f x) (map f xs)
-mem-map f (y ∷ xs) x (List·Memᴰ·head e) = List·Memᴰ·head (ap f e)
-mem-map f (y ∷ xs) x (List·Memᴰ·tail i) = List·Memᴰ·tail (mem-map f xs x i)
+-- What stands in the rows of a row's elements, joined: it stands in one of them.
+pub flat-mem : {X Y : Type 0} (f : X → List Y) (xs : List X) (y : Y) → List·Memᴰ y (flatMap f xs) → (x : X) × List·Memᴰ x xs × List·Memᴰ y (f x)
+unfolding flatMap
+flat-mem f [] y i = absurd (List·Memᴰ·not-nil i)
+flat-mem f (x ∷ xs) y i =
+    ⊎-elim (λ j. (x, List·Memᴰ·head refl, j)) (λ j. let (z, k, h) = flat-mem f xs y j in (z, List·Memᴰ·tail k, h)) (List·Memᴰ·append-cases (f x) i)
+
+pub mem-flat : {X Y : Type 0} (f : X → List Y) (xs : List X) (x : X) (y : Y) → List·Memᴰ x xs → List·Memᴰ y (f x) → List·Memᴰ y (flatMap f xs)
+unfolding flatMap
+mem-flat f (z ∷ xs) x y (List·Memᴰ·head e) j = Memᴰ·append-left (flatMap f xs) (subst (λ w. List·Memᴰ y (f w)) e j)
+mem-flat f (z ∷ xs) x y (List·Memᴰ·tail i) j = Memᴰ·append-right (f z) (mem-flat f xs x y i j)
 
 -- Ranges.
 pub in-range : (b k v : ℕ) → b ≤ v → v < b + k → List·Memᴰ v (range b k)
