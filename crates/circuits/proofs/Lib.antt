@@ -8,3 +8,6 @@ pub mod Levels
 pub mod Written
 pub mod Taken
 pub mod Shared
+pub mod Only
+pub mod Asked
+pub mod Whole

@@ -34,7 +34,7 @@ shared-once (next {g = g} {gs = gs} self before o) s d = go (among d (g .pattern
     go true e k = rw (keep-none (λ h. among d (h .pattern)) gs (later e)) (omega arith)
     go false e k = k
 
-in-pattern : (gs : List Gate) (d : List ℕ) → inPattern gs d ≡ true → (g : Gate) × List·Memᴰ g gs × (among d (g .pattern) ≡ true)
+pub in-pattern : (gs : List Gate) (d : List ℕ) → inPattern gs d ≡ true → (g : Gate) × List·Memᴰ g gs × (among d (g .pattern) ≡ true)
 unfolding inPattern
 in-pattern gs d e = some-in (λ g. among d (g .pattern)) gs e
 
