@@ -9,11 +9,11 @@ use native.Mathlib.Omega.{arith}
 use lib.ListN.{length, getD, length-map}
 use lib.Seq.{ext-getD}
 use lib.Dec.{eqb, ltb}
-use borrow.Author.Tests.{eqb-true, eqb-false, eq-eqb, le-ltb}
+use borrow.Author.Tests.{eqb-true, eqb-false, eq-eqb, le-ltb, not-true}
 use Rattle.ways.specs.Ways.{run, some, every, keep, range, among}
-use Rattle.ways.proofs.Bools.{and-both, is-false, never-both}
+use Rattle.ways.proofs.Bools.{and-left, and-right, is-false, never-both}
 use Rattle.ways.proofs.Rows.{every-all, all-every, some-in, keep-in, in-keep}
-use Rattle.ways.proofs.Members.{among-mem, getD-mem, getD-range, range-size}
+use Rattle.ways.proofs.Members.{among-mem, map-mem, getD-mem, getD-range, range-size}
 use Rattle.tables.specs.Literal.{var, holds, valued}
 use Rattle.tables.specs.Clause.{satisfies, satisfiesAll}
 use Rattle.tables.proofs.Literals.{holds-pos, holds-alike}
@@ -28,6 +28,7 @@ use Rattle.rules.specs.Ask.{askRoot, asked}
 use Rattle.settling.proofs.Links.{Agrees}
 use Rattle.settling.proofs.Roots.{Root}
 use Rattle.settling.proofs.Bound.{Settled}
+use Rattle.circuits.proofs.Values.{rule-alike}
 use Rattle.circuits.proofs.Patterns.{Meets}
 use Rattle.circuits.proofs.Filled.{Within, bit-is, fill-other, fill-rules}
 use Rattle.circuits.proofs.Only.{NoOutput, fill-only}
@@ -48,6 +49,22 @@ split a gs cs there =
       → ((g : Gate) → List·Memᴰ g gs → every (satisfies a) (g .pattern) ≡ true) → satisfies a c ≡ true
     go c i true e r p = let (g, j, t) = in-pattern gs c e in every-all (satisfies a) (g .pattern) (p g j) c (among-mem c (g .pattern) t)
     go c i false e r p = every-all (satisfies a) _ r c (in-keep (λ c. not (inPattern gs c)) cs c i (ap not e))
+
+-- A filled-in row has n values, each 0 or 1.
+pub filled-long : (n : ℕ) (st : List ℕ) (gs : List Gate) (given : List ℕ) → length (filled n st gs given) ≡ n
+unfolding filled
+filled-long n st gs given = length-map (range 1 n) (λ v. bit (holds (valued (fillGates gs given)) (stands st v))) ∙ range-size 1 n
+
+bit-low : (b : Bool) → bit b ≤ 1
+unfolding bit
+bit-low true = omega arith
+bit-low false = omega arith
+
+pub filled-bits : (n : ℕ) (st : List ℕ) (gs : List Gate) (given : List ℕ) (x : ℕ) → List·Memᴰ x (filled n st gs given) → x ≤ 1
+unfolding filled
+filled-bits n st gs given x i =
+    let (v, j, e) = map-mem (λ v. bit (holds (valued (fillGates gs given)) (stands st v))) (range 1 n) x i in
+    subst (λ y. y ≤ 1) (sym e) (bit-low (holds (valued (fillGates gs given)) (stands st v)))
 
 -- A value 0 or 1 comes back from its truth.
 bit-back : (x : ℕ) → x ≤ 1 → bit (eqb x 1) ≡ x
@@ -159,6 +176,18 @@ module _ (n : ℕ) (st : List ℕ) (cs : List (List ℕ)) (set : Settled n st cs
           root-value : (u : ℕ) → Root st u → u ≤ n → end u ≡ a u
           root-value zero r h = end-zero ∙ sym zero-is
           root-value (suc u) r h = end-is (suc u) (r, omega arith, h)
+
+    -- The filled-in values give every gate its value, and free variables the given one.
+    pub through-meets : (g : Gate) → List·Memᴰ g gates → Meets through g
+    through-meets g i =
+        on-root (g .output) (output-root g i) ∙ fill-rules n (are-taken .order) gates-within given long g i
+        ∙ rule-alike end through (g .kind) (g .inputs) (λ x j. sym (on-root (var x) (input-live g i x j .0)))
+
+    pub through-free : (v : ℕ) → free st gates v ≡ true → through v ≡ valued given v
+    unfolding free root
+    through-free v e =
+        on-root v (eqb-true _ _ (and-left (eqb (stands st v) (2 * v)) (not (isOutput gates v)) e))
+        ∙ fill-other n gates gates-within given v (no-output gates v (not-true _ (and-right (eqb (stands st v) (2 * v)) (not (isOutput gates v)) e)))
 
     -- What a fill writes, as an assignment.
     pub filled-value : (v : ℕ) → 1 ≤ v → v ≤ n → valued (filled n st gates given) v ≡ through v
