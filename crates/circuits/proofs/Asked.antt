@@ -1,5 +1,5 @@
 -- Asking gives the filled-in value: each question goes one level down, and the levels are enough.
-use Prim.Native.Nat.{ℕ, zero, suc, ◌+◌, ◌≤◌, ◌<◌}
+use Prim.Native.Nat.{ℕ, zero, suc, ◌≤◌, ◌<◌}
 use mathlib.Core.Path.{◌≡◌, refl, sym, ap, ◌∙◌, subst}
 use mathlib.Core.Bool.{Bool, true, false}
 use mathlib.Core.List.{List, [], ◌∷◌, Memᴰ}
@@ -7,7 +7,7 @@ use native.Mathlib.Omega.{arith}
 use lib.ListN.{length, get_or}
 use lib.Dec.{eqb}
 use borrow.Author.Tests.{eqb-true, eq-eqb, ne_eqb}
-use Rattle.ways.specs.Ways.{run, some}
+use Rattle.ways.specs.Ways.{run}
 use Rattle.ways.proofs.Rows.{some_in, in_some, none_of}
 use Rattle.ways.proofs.Bools.{never_both}
 use Rattle.tables.specs.Literal.{var, valued}
@@ -53,6 +53,7 @@ module _ (F : ℕ → Bool) (v : ℕ) where
 
   pick_gate : {gs : List Gate} → Ordered gs → (g : Gate) → Memᴰ g gs → g.output ≡ v → (value : Bool) → run pick value gs ≡ rule g.kind F g.inputs
   unfolding run
+  pick_gate none g i e value = elim i [ ]
   pick_gate (next {g = h} {gs = gs} s b o) g (Memᴰ.head q) e value =
       let f : h.output ≡ v = ap (λ (k : Gate). k.output) (sym q) ∙ e in
       ap (λ x. run pick x gs) (hit value h f) ∙ pick_other gs (λ k i r. (b k i).other (f ∙ r)) (rule h.kind F h.inputs) ∙ ap (λ (k : Gate). rule k.kind F k.inputs) (sym q)

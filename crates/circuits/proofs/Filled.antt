@@ -1,19 +1,19 @@
 -- Filling in the gates in their order gives each output its rule's value, and changes nothing else.
-use Prim.Native.Nat.{ℕ, zero, suc, ◌+◌, ◌-◌, ◌≤◌, ◌<◌}
+use Prim.Native.Nat.{ℕ, zero, suc, ◌-◌, ◌≤◌}
 use mathlib.Core.Path.{◌≡◌, refl, sym, ap, ◌∙◌, subst}
 use mathlib.Core.Bool.{Bool, true, false}
 use mathlib.Core.List.{List, [], ◌∷◌, Memᴰ}
 use native.Mathlib.Omega.{arith}
-use lib.ListN.{length, get_or, set, length-set}
+use lib.ListN.{length, set, length-set}
 use lib.Seq.{get_or-set_same, get_or-set_other}
 use lib.Dec.{eqb}
 use Rattle.ways.specs.Ways.{run}
 use Rattle.tables.specs.Literal.{var, valued}
 use Rattle.rules.specs.Kinds.{rule}
 use Rattle.rules.specs.Patterns.{Gate}
-use Rattle.rules.specs.Fill.{bit, fill_step, fill_gates}
+use Rattle.rules.specs.Fill.{bit, fill_step}
 use Rattle.circuits.proofs.Values.{rule-alike}
-use Rattle.circuits.proofs.Order.{Ordered, next}
+use Rattle.circuits.proofs.Order.{Ordered, none, next}
 
 -- A row of values with one value changed.
 pub valued_other : (values : List ℕ) (o v b : ℕ) → 1 ≤ o → (v ≡ o → ⊥) → valued (set values (o - 1) b) v ≡ valued values v
@@ -71,6 +71,7 @@ fill_other n (g ∷ gs) w values v k =
 pub fill_rules : (n : ℕ) {gs : List Gate} → Ordered gs → Within n gs → (values : List ℕ) → n ≤ length values
     → (g : Gate) → Memᴰ g gs → valued (run fill_step values gs) g.output ≡ rule g.kind (valued (run fill_step values gs)) g.inputs
 unfolding run
+fill_rules n none w values l h i = elim i [ ]
 fill_rules n (next {g = g} {gs = gs} s b o) w values l h (Memᴰ.head q) = subst (λ f. valued end f.output ≡ rule f.kind (valued end) f.inputs) (sym q) first
   where
     end : List ℕ

@@ -7,11 +7,10 @@ use native.Mathlib.Omega.{arith}
 use lib.ListN.{length, get_or, set, length-set, replicate, length-replicate}
 use lib.Seq.{get_or-set_same, get_or-set_other}
 use Rattle.ways.specs.Ways.{run}
-use Rattle.ways.proofs.Runs.{run_keeps}
 use Rattle.tables.specs.Literal.{var}
 use Rattle.rules.specs.Patterns.{Gate}
 use Rattle.rules.specs.Circuit.{highest, level_step, levels}
-use Rattle.circuits.proofs.Order.{Ordered, next}
+use Rattle.circuits.proofs.Order.{Ordered, none, next}
 
 -- the highest looks at its inputs only
 high_like : (lv kv ins : List ℕ) (k : ℕ) → ((x : ℕ) → Memᴰ x ins → get_or lv (var x) 0 ≡ get_or kv (var x) 0)
@@ -29,6 +28,7 @@ level_other (g ∷ gs) lv v n =
 pub level_rules : {gs : List Gate} → Ordered gs → (lv : List ℕ) → ((h : Gate) → Memᴰ h gs → h.output < length lv)
     → (g : Gate) → Memᴰ g gs → get_or (run level_step lv gs) g.output 0 ≡ suc (highest (run level_step lv gs) g.inputs)
 unfolding run level_step highest
+level_rules none lv l h i = elim i [ ]
 level_rules (next {g = g} {gs = gs} s b o) lv l h (Memᴰ.head q) = subst (λ f. get_or fin f.output 0 ≡ suc (highest fin f.inputs)) (sym q) first
   where
     fin : List ℕ
@@ -51,6 +51,7 @@ high_over lv (x ∷ inputs) k = omega (arith, high_over lv inputs (max k (get_or
 
 high_above : (lv : List ℕ) (inputs : List ℕ) (k x : ℕ) → Memᴰ x inputs → get_or lv (var x) 0 ≤ run (λ k x. max k (get_or lv (var x) 0)) k inputs
 unfolding run
+high_above lv [] k x i = elim i [ ]
 high_above lv (y ∷ inputs) k x (Memᴰ.head q) = rw q (omega (arith, high_over lv inputs (max k (get_or lv (var y) 0))))
 high_above lv (y ∷ inputs) k x (Memᴰ.tail i) = high_above lv inputs (max k (get_or lv (var y) 0)) x i
 

@@ -4,15 +4,14 @@ use Prim.Native.Nat.{ℕ, ◌≤◌}
 use mathlib.Core.Path.{◌≡◌, refl, sym, ap, ◌∙◌}
 use mathlib.Core.Bool.{Bool, true, false}
 use mathlib.Core.List.Memᴰ
-use mathlib.Core.List.{List, [], ◌∷◌, Memᴰ}
-use mathlib.Core.Logic.{◌⊎◌, ⊎_elim}
+use mathlib.Core.List.{List, ◌∷◌, Memᴰ}
+use mathlib.Core.Logic.{⊎_elim}
 use native.Mathlib.Omega.{arith}
 use lib.ListN.{length}
 use lib.Dec.{eqb}
 use borrow.Author.Tests.{eqb-true, eqb-false}
 use Rattle.ways.specs.Ways.{run}
 use Rattle.tables.specs.Literal.{var, valued}
-use Rattle.rules.specs.Kinds.{rule}
 use Rattle.rules.specs.Patterns.{Gate}
 use Rattle.rules.specs.Fill.{fill_step}
 use Rattle.circuits.proofs.Values.{rule-alike}

@@ -1,13 +1,12 @@
 -- The gates taken stand in an order of evaluation: each behind those that its inputs depend on. So they have no ring.
 use Prim.Native.Nat.{ℕ, zero, suc, ◌+◌, ◌<◌}
 use mathlib.Core.Path.{◌≡◌, refl, sym, ap, ◌∙◌, subst}
-use mathlib.Core.Bool.{Bool, true, false, cond, not, ◌&&◌}
+use mathlib.Core.Bool.{Bool, true, false, cond, not}
 use mathlib.Core.List.Memᴰ
 use mathlib.Core.List.{List, [], ◌∷◌, ◌++◌, Memᴰ}
-use mathlib.Core.Logic.{◌⊎◌, ⊎_elim}
+use mathlib.Core.Logic.{⊎_elim}
 use lib.ListN.{length, set, replicate, length-set, length-replicate}
 use lib.Seq.{get_or-set_same}
-use lib.Dec.{eqb}
 use borrow.Author.Tests.{eq-eqb, not-true}
 use Rattle.ways.specs.Ways.{run, some, keep}
 use Rattle.ways.proofs.Bools.{clash_of, and_left, and_right}
@@ -17,7 +16,7 @@ use Rattle.tables.specs.Literal.{var}
 use Rattle.rules.specs.Forced.{marked}
 use Rattle.rules.specs.Patterns.{Gate}
 use Rattle.rules.specs.Taking.{touched, depend_step, dependents, is_output, allowed, place}
-use Rattle.settling.proofs.Forced.{set_was, none_marked}
+use Rattle.settling.proofs.Forced.{set_was}
 
 -- no input of g is the output of h
 abbrev pub Apart : Gate → Gate → Type 0
@@ -33,6 +32,7 @@ pub data Ordered : List Gate → Type 0 where
   next : {g : Gate} {gs : List Gate} → Apart g g → ((h : Gate) → Memᴰ h gs → Before g h) → Ordered gs → Ordered (g ∷ gs)
 
 self_of : {gs : List Gate} → Ordered gs → (h : Gate) → Memᴰ h gs → Apart h h
+self_of none h i = elim i [ ]
 self_of (next {g = g} s b o) h (Memᴰ.head e) = subst (λ k. Apart k k) (sym e) s
 self_of (next s b o) h (Memᴰ.tail i) = self_of o h i
 
@@ -96,6 +96,7 @@ module _ (k : ℕ) where
   pub closed : {gs : List Gate} → Ordered gs → (m : List ℕ) → length m ≡ k → (h : Gate) → Memᴰ h gs → h.output < k
       → touched (run depend_step m gs) h ≡ true → marked (run depend_step m gs) h.output ≡ true
   unfolding run touched
+  closed none m l h i b e = elim i [ ]
   closed (next {g = g} {gs = gs} s bf o) m l h (Memᴰ.head q) b e =
       let e' = subst (λ f. some (λ x. marked (run depend_step (depend_step m g) gs) (var x)) f.inputs ≡ true) q e in
       let (x, i, t) = some_in _ g.inputs e' in

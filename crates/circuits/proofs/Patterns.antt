@@ -5,7 +5,7 @@ use mathlib.Core.Path.{◌≡◌, refl, sym, ap, ◌∙◌}
 use mathlib.Core.Bool.{Bool, true, false, cond, ◌&&◌, ◌||◌, not, xor, or-false, or-true, beq}
 use mathlib.Core.List.Memᴰ
 use mathlib.Core.List.{List, [], ◌∷◌, ◌++◌, map, Memᴰ}
-use mathlib.Core.Logic.{◌⊎◌, ⊎_elim, ◌↔◌}
+use mathlib.Core.Logic.{⊎_elim, ◌↔◌}
 use lib.Dec.{eqb}
 use borrow.Author.Tests.{eqb-true, eq-eqb, ne_eqb}
 use Rattle.ways.specs.Ways.{some, every, oddly, keep}
@@ -13,13 +13,13 @@ use Rattle.ways.proofs.Bools.{agree, or_cases, or_left, or_right}
 use Rattle.ways.proofs.Rows.{some_in, in_some, keep_in, in_keep, every-map, every-alike, every-not, oddly-map}
 use Rattle.tables.specs.Literal.{var, neg, opp, holds}
 use Rattle.tables.specs.Clause.{satisfies, satisfies_all}
-use Rattle.tables.proofs.Literals.{holds_pos, holds-neg, holds-opp, holds_by}
+use Rattle.tables.proofs.Literals.{holds_pos, holds-neg, holds-opp}
 use Rattle.tables.proofs.Clauses.{all-append}
 use Rattle.rules.specs.Clean.{insert}
 use Rattle.rules.specs.Kinds.{rule}
 use Rattle.rules.specs.Patterns.{Gate, others, side, and_inputs, and_form, signings, odd, group, parity}
 use Rattle.settling.proofs.Clean.{insert_sat}
-use Rattle.settling.proofs.Proper.{Distinct, none, more}
+use Rattle.settling.proofs.Proper.{Distinct, more}
 use Rattle.circuits.proofs.Values.{and-rule, parity-rule}
 
 iff : (p v w : Bool) → p ≡ beq v w → (p ≡ true) ↔ (v ≡ w)
@@ -161,6 +161,7 @@ module _ (a : ℕ → Bool) where
 
   pub odd-others : (p : ℕ → Bool) (c : List ℕ) (o : ℕ) → Distinct c → Memᴰ o c → oddly p c ≡ xor (p o) (oddly p (others o c))
   unfolding oddly others keep
+  odd-others p [] o _ i = elim i [ ]
   odd-others p (x ∷ c) o (more h d) (Memᴰ.head q) = rw (eq-eqb x o (sym q), keep_all c o (λ i. h (Memᴰ.cast (sym q) i)), q)
   odd-others p (x ∷ c) o (more h d) (Memᴰ.tail i) = rw (ne_eqb x o (λ e. h (Memᴰ.cast e i)), odd-others p c o d i) (xor_swap (p x) (p o) (oddly p (others o c)))
 

@@ -1,17 +1,17 @@
 -- No settled clause is in two patterns of taken gates; and the gates written out again give back, with the residue, the
 -- settled table's set of clauses.
-use Prim.Native.Nat.{ℕ, suc, ◌≤◌}
+use Prim.Native.Nat.{ℕ, ◌≤◌}
 use mathlib.Core.Path.{◌≡◌, refl, sym, ap, ◌∙◌, subst}
 use mathlib.Core.Bool.{Bool, true, false, cond, not}
 use mathlib.Core.List.Memᴰ
-use mathlib.Core.List.{List, [], ◌∷◌, ◌++◌, flat_map, Memᴰ}
-use mathlib.Core.Logic.{◌⊎◌, ⊎_elim}
+use mathlib.Core.List.{List, ◌∷◌, ◌++◌, flat_map, Memᴰ}
+use mathlib.Core.Logic.{⊎_elim}
 use native.Mathlib.Omega.{arith}
 use lib.ListN.{length}
 use borrow.Author.Tests.{not-true}
-use Rattle.ways.specs.Ways.{some, every, keep, among}
+use Rattle.ways.specs.Ways.{keep, among}
 use Rattle.ways.proofs.Bools.{agree}
-use Rattle.ways.proofs.Rows.{every_all, some_in, in_some, keep_in, in_keep}
+use Rattle.ways.proofs.Rows.{every_all, some_in, keep_in, in_keep}
 use Rattle.ways.proofs.Members.{among-mem, mem-among, flat_mem, mem_flat}
 use Rattle.ways.proofs.Counts.{keep_none}
 use Rattle.rules.specs.Patterns.{Gate, found, written_out}

@@ -1,16 +1,16 @@
 -- The gates taken, by any rule that allows no more than 01's: each is found in the settled table, says what its pattern says,
 -- and together they stand in an order of evaluation.
-use Prim.Native.Nat.{ℕ, ◌+◌, ◌*◌, ◌≤◌}
+use Prim.Native.Nat.{ℕ, ◌*◌, ◌≤◌}
 use mathlib.Core.Path.{◌≡◌, refl, sym, ap, ◌∙◌, subst}
 use mathlib.Core.Bool.{Bool, true, false, cond, not}
 use mathlib.Core.List.Memᴰ
-use mathlib.Core.List.{List, [], ◌∷◌, ◌++◌, map, Memᴰ}
+use mathlib.Core.List.{List, [], ◌∷◌, map, Memᴰ}
 use mathlib.Core.Logic.{◌⊎◌, inl, inr, ⊎_elim, ◌↔◌}
 use native.Mathlib.Omega.{arith}
 use lib.ListN.{length}
-use lib.Dec.{eqb, ltb}
+use lib.Dec.{ltb}
 use borrow.Author.Tests.{eqb-false, not-true}
-use Rattle.ways.specs.Ways.{run, keep}
+use Rattle.ways.specs.Ways.{keep}
 use Rattle.ways.proofs.Runs.{run_keeps}
 use Rattle.ways.proofs.Rows.{keep_in}
 use Rattle.ways.proofs.Members.{map-mem}

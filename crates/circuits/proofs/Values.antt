@@ -2,8 +2,8 @@
 -- width; and the kind table's signs.
 use Prim.Native.Nat.{ℕ, ◌+◌, ◌*◌}
 use mathlib.Core.Path.{◌≡◌, refl, sym, ap, ◌∙◌}
-use mathlib.Core.Bool.{Bool, true, false, cond, not, ◌&&◌}
-use mathlib.Core.List.{List, [], ◌∷◌, map, Memᴰ}
+use mathlib.Core.Bool.{Bool, true, false, cond, not}
+use mathlib.Core.List.{List, map, Memᴰ}
 use lib.Dec.{eqb}
 use borrow.Author.Tests.{not-true}
 use Rattle.ways.specs.Ways.{some, every, oddly, range}

@@ -2,17 +2,17 @@
 -- that satisfies it is the one filled in from its own free values; and every variable has exactly one part.
 use Prim.Native.Nat.{ℕ, zero, suc, ◌+◌, ◌*◌, ◌≤◌, ◌<◌}
 use mathlib.Core.Path.{◌≡◌, refl, sym, ap, ◌∙◌, subst}
-use mathlib.Core.Bool.{Bool, true, false, cond, not, ◌&&◌}
-use mathlib.Core.List.{List, [], ◌∷◌, map, Memᴰ}
-use mathlib.Core.Logic.{◌⊎◌, inl, inr, ⊎_elim, ◌↔◌}
+use mathlib.Core.Bool.{Bool, true, false, not, ◌&&◌}
+use mathlib.Core.List.{List, Memᴰ}
+use mathlib.Core.Logic.{◌↔◌}
 use native.Mathlib.Omega.{arith}
 use lib.ListN.{length, get_or, length-map}
 use lib.Seq.{ext_get_or}
 use lib.Dec.{eqb, ltb}
 use borrow.Author.Tests.{eqb-true, eqb-false, eq-eqb, le-ltb, not-true}
-use Rattle.ways.specs.Ways.{run, some, every, keep, range, among}
+use Rattle.ways.specs.Ways.{run, every, keep, range}
 use Rattle.ways.proofs.Bools.{and_left, and_right, is_false, never_both}
-use Rattle.ways.proofs.Rows.{every_all, all_every, some_in, keep_in, in_keep}
+use Rattle.ways.proofs.Rows.{every_all, all_every, keep_in, in_keep}
 use Rattle.ways.proofs.Members.{among-mem, map-mem, get_or-mem, get_or-range, range_size}
 use Rattle.tables.specs.Literal.{var, holds, valued}
 use Rattle.tables.specs.Clause.{satisfies, satisfies_all}
@@ -33,7 +33,7 @@ use Rattle.circuits.proofs.Patterns.{Meets}
 use Rattle.circuits.proofs.Filled.{Within, bit_is, fill_other, fill_rules}
 use Rattle.circuits.proofs.Only.{NoOutput, fill_only}
 use Rattle.circuits.proofs.Asked.{gate_of_output, no_output, asked_is}
-use Rattle.circuits.proofs.Taken.{Valid, Taken, taken_is}
+use Rattle.circuits.proofs.Taken.{Taken, taken_is}
 use Rattle.circuits.proofs.Shared.{in_pattern_gate}
 
 -- The settled clauses hold exactly where the residue does and every taken gate's pattern does, since these are among them.

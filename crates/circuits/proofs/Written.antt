@@ -4,14 +4,14 @@ use Prim.Native.Nat.{ℕ, ◌+◌, ◌*◌, ◌≤◌, ◌<◌}
 use mathlib.Core.Path.{◌≡◌, refl, sym, ap, ◌∙◌, subst}
 use mathlib.Core.Bool.{Bool, true, false, cond, not}
 use mathlib.Core.List.Memᴰ
-use mathlib.Core.List.{List, [], ◌∷◌, ◌++◌, map, Memᴰ}
+use mathlib.Core.List.{List, [], ◌∷◌, map, Memᴰ}
 use mathlib.Core.Logic.{◌⊎◌, inl, inr, ⊎_elim}
 use native.Mathlib.Omega.{arith}
 use lib.Dec.{eqb, ltb}
-use borrow.Author.Tests.{eqb-true, eqb-false, eq-eqb, ne_eqb, lt-ltb, le-ltb, not-true}
+use borrow.Author.Tests.{eqb-true, eq-eqb, ne_eqb, lt-ltb, le-ltb}
 use Rattle.ways.specs.Ways.{every, keep}
 use Rattle.ways.proofs.Bools.{clash_of}
-use Rattle.ways.proofs.Rows.{in_keep, keep_in}
+use Rattle.ways.proofs.Rows.{in_keep}
 use Rattle.ways.proofs.Members.{map-mem}
 use Rattle.tables.specs.Literal.{var, neg, opp}
 use Rattle.tables.proofs.Literals.{var_pos, var-neg, var_mono, var-opp, opp-opp, two_forms, neg_pos, neg-neg}
@@ -107,6 +107,7 @@ module _ (c : List ℕ) (o : ℕ) (i : Memᴰ o c) where
 back_in : {xs : List ℕ} → Rising xs → (f : ℕ → ℕ) → ((x y : ℕ) → Memᴰ x xs → Memᴰ y xs → x < y → f x < f y) → (o : ℕ) → Memᴰ o xs
     → insert (f o) (map f (others o xs)) ≡ map f xs
 unfolding others keep insert
+back_in nil f up o i = elim i [ ]
 back_in (cons {x = x} {xs = xs} h r) f up o (Memᴰ.head q) = rw (eq-eqb x o (sym q), all_kept xs o (λ j. no (h o j) q)) (front xs f (λ y j. up x y (Memᴰ.head refl) (Memᴰ.tail j) (h y j)) q)
   where
     no : x < o → o ≡ x → ⊥

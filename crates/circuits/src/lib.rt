@@ -1,1 +1,2 @@
 // Theorems about the gates: no code.
+#![tactic(auto)]

@@ -1,39 +1,37 @@
 -- The proofs of the statements in specs/Demands.
-use Prim.Native.Nat.{ℕ, zero, suc, ◌+◌, ◌*◌, ◌≤◌, ◌<◌}
+use Prim.Native.Nat.{ℕ, zero, suc, ◌*◌, ◌≤◌, ◌<◌}
 use mathlib.Core.Path.{◌≡◌, refl, sym, ap, ◌∙◌, subst}
-use mathlib.Core.Bool.{Bool, true, false, not, ◌&&◌, beq}
-use mathlib.Core.List.{List, [], ◌∷◌, ◌++◌, flat_map, Memᴰ}
-use mathlib.Core.Logic.{◌⊎◌, ⊎_elim, ◌↔◌}
+use mathlib.Core.Bool.{Bool, true, false, ◌&&◌, beq}
+use mathlib.Core.List.{List, flat_map, Memᴰ}
+use mathlib.Core.Logic.{◌↔◌}
 use native.Mathlib.Omega.{arith}
 use lib.IntN.{ℤ}
-use lib.ListN.{length, get_or, get_or-eq_default}
-use lib.Dec.{eqb, ltb}
-use borrow.Author.Tests.{eqb-true, eq-eqb, ltb-true, ltb-false}
-use Rattle.ways.specs.Ways.{some, every, keep, range, among}
-use Rattle.ways.proofs.Bools.{agree, and_left, and_right, and_both, is_false, never_both, clash_of}
+use lib.ListN.{length, get_or-eq_default}
+use lib.Dec.{ltb}
+use borrow.Author.Tests.{eq-eqb, ltb-true, ltb-false}
+use Rattle.ways.specs.Ways.{some, every, range, among}
+use Rattle.ways.proofs.Bools.{agree, and_left, and_right, and_both, is_false, never_both}
 use Rattle.ways.proofs.Rows.{every_all, all_every, in_some, keep_in}
-use Rattle.ways.proofs.Members.{among-mem, mem-range, range_in, flat_mem, mem-among}
-use Rattle.tables.specs.Literal.{var, holds, valued}
+use Rattle.ways.proofs.Members.{among-mem, mem-range, flat_mem, mem-among}
+use Rattle.tables.specs.Literal.{holds, valued}
 use Rattle.tables.specs.Clause.{satisfies, satisfies_all}
 use Rattle.tables.proofs.Literals.{holds_pos}
 use Rattle.tables.proofs.Checked.{Inside}
-use Rattle.rules.specs.Pairs.{stands, fixed, root, linked}
-use Rattle.rules.specs.Rounds.{Outcome, impossible, outcome, pinned}
+use Rattle.rules.specs.Pairs.{stands, root}
+use Rattle.rules.specs.Rounds.{pinned}
 use Rattle.rules.specs.Kinds.{rule}
 use Rattle.rules.specs.Patterns.{Gate, found, written_out}
-use Rattle.rules.specs.Taking.{is_output, allowed, taken_by, taken}
-use Rattle.rules.specs.Circuit.{in_pattern, residue, free, highest, levels}
+use Rattle.rules.specs.Taking.{allowed, taken_by, taken}
+use Rattle.rules.specs.Circuit.{in_pattern, residue, free}
 use Rattle.rules.specs.Fill.{filled}
-use Rattle.rules.specs.Ask.{asked}
 use Rattle.settling.proofs.Links.{Agrees}
 use Rattle.settling.proofs.Bound.{Settled}
 use Rattle.circuits.proofs.Patterns.{Meets}
 use Rattle.circuits.proofs.Levels.{level_is, level_rises, levels_low}
 use Rattle.circuits.proofs.Shared.{shared_once, give_back, residue_apart}
-use Rattle.circuits.proofs.Taken.{Valid, Taken}
-use Rattle.circuits.proofs.Filled.{fill_rules}
-use Rattle.circuits.proofs.Whole.{gates, settled_inside, are_taken, gates_within, one_part, through, through_zero, through_agrees, through_meets, through_free, filled-holds, through_is, filled_long, filled_bits, filled_value, filled-alike, filled_row, asked_value}
-use Rattle.demands.specs.Evening.{Lent, Settles}
+use Rattle.circuits.proofs.Taken.{Taken}
+use Rattle.circuits.proofs.Whole.{settled_inside, are_taken, gates_within, one_part, through, through_zero, through_agrees, through_meets, through_free, filled-holds, through_is, filled_long, filled_bits, filled_value, filled-alike, filled_row, asked_value}
+use Rattle.demands.specs.Evening.{Settles}
 use Rattle.demands.specs.Demands.{agrees, SettlingExact, RoundsBounded, RefusalBounded, LinksToRoots, OnePart, LevelsRise, NoneShared, PatternSays, GiveBack, FilledSatisfies, OwnFilling, OthersIgnored, NonePossible, AskedIsFilled}
 use Rattle.demands.proofs.Settled.{lent_inside, impossible_ends, impossible_means, settled_ends, settled_means}
 

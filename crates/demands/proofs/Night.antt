@@ -1,12 +1,12 @@
 -- The proofs of the statements in specs/Night: the book holds what the stack holds, and nothing else decides a build.
-use Prim.Native.Nat.{ℕ, zero, suc, ◌+◌, ◌-◌, ◌≤◌, ◌<◌}
-use mathlib.Core.Path.{◌≡◌, refl, sym, ap, ◌∙◌, subst}
+use Prim.Native.Nat.{ℕ, ◌+◌, ◌-◌, ◌≤◌, ◌<◌}
+use mathlib.Core.Path.{◌≡◌, refl, sym, ap, ◌∙◌}
 use mathlib.Core.Bool.{Bool, true, false}
 use mathlib.Core.List.{List, [], ◌∷◌, ◌++◌, Memᴰ}
 use native.Mathlib.Omega.{arith}
 use native.Mathlib.Numerals.{add-one}
 use lib.IntN.{ℤ, pos}
-use lib.ListN.{length, set, take, replicate, length-set, length-replicate, length-append}
+use lib.ListN.{length, take, length-set, length-replicate, length-append}
 use lib.Seq.{length-take-le, take-suc-set, take-set-le, take-take, take-append_seam}
 use lib.Dec.{eqb, leb, ltb}
 use borrow.Author.Tests.{eqb-false, ne_eqb, leb-false, le-ltb}
@@ -14,12 +14,12 @@ use Rattle.ways.specs.Ways.{run}
 use Rattle.ways.proofs.Runs.{run_keeps, run-append}
 use Rattle.tables.specs.declared.Verdict.{Verdict}
 use Rattle.tables.specs.declared.Verdict.TheVariants.{Accepted, Refused}
-use Rattle.rules.specs.Pins.{in_force, empty_book, out_of_range, with_pin, without_last, take_back}
+use Rattle.rules.specs.Pins.{in_force, empty_book, with_pin, without_last, take_back}
 use Rattle.rules.specs.Calls.{refuse, book_long, held_bad, outcome_of, build_verdict, build, build_listing, pin_verdict, booked_as, pin}
 use Rattle.rules.specs.declared.Book.{Book}
 use Rattle.rules.specs.declared.Booked.{Booked}
 use Rattle.demands.specs.Night.{Move, put, back, answer, stacked, Desk, opening, move, after, StackHeld, StackDecides, TakeBackUndoes}
-use Rattle.demands.proofs.Verdicts.{all_accept, refuse-accepts, never}
+use Rattle.demands.proofs.Verdicts.{all_accept, refuse-accepts}
 
 -- The invariant of a night.
 record Held (d : Desk) : Type 0 where

@@ -1,16 +1,14 @@
 -- What an evening that is settled gives to all the proofs: clauses of the variables 1 to n, the invariant of the rounds, and the
 -- meaning of what is settled.
-use Prim.Native.Nat.{ℕ, suc, ◌+◌, ◌≤◌, ◌<◌}
-use mathlib.Core.Path.{◌≡◌, refl, sym, ap, ◌∙◌, subst}
-use mathlib.Core.Bool.{Bool, true, false, not, ◌||◌}
+use Prim.Native.Nat.{ℕ, ◌+◌, ◌≤◌, ◌<◌}
+use mathlib.Core.Path.{◌≡◌, sym, subst}
+use mathlib.Core.Bool.{Bool, true, false, not}
 use mathlib.Core.List.Memᴰ
-use mathlib.Core.List.{List, [], ◌∷◌, ◌++◌, map, Memᴰ}
-use mathlib.Core.Logic.{◌⊎◌, ⊎_elim, ◌↔◌}
-use native.Mathlib.Omega.{arith}
+use mathlib.Core.List.{List, [], ◌∷◌, Memᴰ}
+use mathlib.Core.Logic.{⊎_elim, ◌↔◌}
 use lib.IntN.{ℤ}
 use lib.Dec.{eqb, ltb}
 use borrow.Author.Tests.{eqb-false, ltb-false, not-true}
-use Rattle.ways.specs.Ways.{every}
 use Rattle.ways.proofs.Bools.{or_none}
 use Rattle.ways.proofs.Rows.{every_all}
 use Rattle.ways.proofs.Members.{map-mem}
@@ -18,11 +16,11 @@ use Rattle.tables.specs.Literal.{literal, var}
 use Rattle.tables.specs.Clause.{clauses, satisfies_all}
 use Rattle.tables.proofs.Literals.{var_one, literal_one}
 use Rattle.tables.proofs.Checked.{Inside, accepted_inside}
-use Rattle.rules.specs.Rounds.{Outcome, impossible, settled, outcome, pinned}
+use Rattle.rules.specs.Rounds.{impossible, settled, outcome, pinned}
 use Rattle.rules.specs.Pins.{out_of_range}
 use Rattle.settling.proofs.Models.{Models, Means, outcome_means}
-use Rattle.settling.proofs.Bound.{Settled, Ends, outcome_ends}
-use Rattle.demands.specs.Evening.{Lent, Settles}
+use Rattle.settling.proofs.Bound.{Settled, outcome_ends}
+use Rattle.demands.specs.Evening.{Lent}
 
 pin_inside : (n : ℕ) (x : ℤ) → out_of_range n x ≡ false → (1 ≤ var (literal x)) × (var (literal x) ≤ n)
 unfolding out_of_range

@@ -1,6 +1,6 @@
 -- Tests in their order: where all accept, each does; where one refuses, it is one of them.
 use Prim.Native.Nat.{ℕ}
-use mathlib.Core.Path.{◌≡◌, refl, sym, ap, ◌∙◌}
+use mathlib.Core.Path.{◌≡◌, refl, sym, ap}
 use mathlib.Core.Bool.{Bool, true, false}
 use mathlib.Core.List.{List, [], ◌∷◌, Memᴰ}
 use Rattle.ways.proofs.Bools.{clash_of}
@@ -24,8 +24,13 @@ pub place_of : Verdict → ℕ
 place_of Accepted = 0
 place_of (Refused number place) = place
 
+pub same_place : (c p number place : ℕ) → Refused c p ≡ Refused number place → p ≡ place
+unfolding place_of
+same_place c p number place e = ap place_of e
+
 pub all_accept : (vs : List Verdict) → first_refusal vs ≡ Accepted → (v : Verdict) → Memᴰ v vs → v ≡ Accepted
 unfolding first_refusal
+all_accept [] e v i = elim i [ ]
 all_accept (Accepted ∷ vs) e v (Memᴰ.head q) = q
 all_accept (Accepted ∷ vs) e v (Memᴰ.tail i) = all_accept vs e v i
 all_accept (Refused number place ∷ vs) e v i = never number place e

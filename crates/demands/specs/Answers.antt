@@ -2,11 +2,10 @@
 -- it; number 4 is a contradiction and nothing else; a refusal changes nothing.
 use Rattle.std.specs.Prelude.{ℕ, ◌≡◌, List, ℤ, length}
 use Rattle.tables.specs.declared.Verdict.TheVariants.{Refused}
-use Rattle.rules.specs.Rounds.{Outcome, impossible, outcome, pinned}
+use Rattle.rules.specs.Rounds.{impossible, outcome, pinned}
 use Rattle.rules.specs.Pins.{in_force, take_back}
 use Rattle.rules.specs.Calls.{build_verdict, build, build_listing, fill_verdict, fill_values, pin}
 use Rattle.rules.specs.declared.Book.{Book}
-use Rattle.rules.specs.declared.Booked.{Booked}
 use Rattle.rules.specs.declared.Built.TheVariants as built
 use Rattle.demands.specs.Evening.{Lent, Settles}
 

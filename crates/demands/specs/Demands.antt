@@ -1,13 +1,13 @@
 -- The statements. Each is a type, and a proof of it stands in proofs/ under the same name with small letters. An assignment
 -- is a row of values, 0 or 1, the first for variable 1; an equation of two tests says "exactly when".
-use Rattle.std.specs.Prelude.{ℕ, ◌+◌, ◌≤◌, ◌<◌, ◌≡◌, Bool, true, false, not, ◌&&◌, ℤ, length, get_or}
+use Rattle.std.specs.Prelude.{ℕ, ◌+◌, ◌≤◌, ◌<◌, ◌≡◌, Bool, true, false, ◌&&◌, ℤ, length, get_or}
 use Rattle.std.specs.Bool.{beq}
 use mathlib.Core.List.{List, ◌++◌, flat_map, Memᴰ}
 use Rattle.ways.specs.Ways.{every, keep, range, among}
 use Rattle.tables.specs.Literal.{var, holds, valued}
 use Rattle.tables.specs.Clause.{satisfies_all}
 use Rattle.rules.specs.Pairs.{stands, fixed, root, linked}
-use Rattle.rules.specs.Rounds.{Outcome, impossible, outcome, pinned}
+use Rattle.rules.specs.Rounds.{impossible, outcome, pinned}
 use Rattle.rules.specs.Kinds.{rule}
 use Rattle.rules.specs.Patterns.{Gate, written_out}
 use Rattle.rules.specs.Taking.{is_output, taken}

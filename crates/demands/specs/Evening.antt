@@ -4,7 +4,7 @@ use Rattle.std.specs.Prelude.{ℕ, ◌≡◌, true, not, List, ℤ}
 use Rattle.ways.specs.Ways.{every}
 use Rattle.tables.specs.Check.{checked}
 use Rattle.tables.specs.declared.Verdict.TheVariants.{Accepted}
-use Rattle.rules.specs.Rounds.{Outcome, settled, outcome, pinned}
+use Rattle.rules.specs.Rounds.{settled, outcome, pinned}
 use Rattle.rules.specs.Pins.{out_of_range}
 
 -- n variables, a table, and pins in range.

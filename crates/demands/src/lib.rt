@@ -1,1 +1,2 @@
 // The demands as theorems about the definitions: no code.
+#![tactic(auto)]

@@ -1,6 +1,6 @@
 -- What each public call answers, for every input, and what the lent memory holds afterwards: the refusals in 01's order,
 -- each with its number and place. The calls on clause text stand beside its definitions.
-use Rattle.std.specs.Prelude.{ℕ, zero, suc, ◌+◌, ◌-◌, Bool, true, false, ◌&&◌, ◌||◌, List, [], ◌∷◌, ◌++◌, ℤ, pos, length, get_or, replicate, eqb, leb, ltb}
+use Rattle.std.specs.Prelude.{ℕ, ◌-◌, Bool, true, false, ◌&&◌, ◌||◌, List, [], ◌∷◌, ◌++◌, ℤ, pos, length, get_or, replicate, eqb, leb, ltb}
 use Rattle.ways.specs.Ways.{some, keep, range}
 use Rattle.tables.specs.Sizes.{most_pins, work_room}
 use Rattle.tables.specs.Check.{checked}

@@ -1,7 +1,7 @@
 -- The evenings: 01's starred cases, its example of road 4, its night with the pin book, and one case for each slip "that a yard
 -- would not notice" and that none of those shows. One list, and one statement that runs the definitions over it: what the
 -- builder prints, byte for byte.
-use Rattle.std.specs.Prelude.{ℕ, suc, ◌≡◌, refl, ℤ, pos, negsuc}
+use Rattle.std.specs.Prelude.{ℕ, ◌≡◌, refl, ℤ, pos, negsuc}
 use Prim.Native.String.{String}
 use mathlib.Core.Bool.{Bool, true, false}
 use mathlib.Core.List.{List, [], ◌∷◌, ◌++◌}

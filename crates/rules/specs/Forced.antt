@@ -1,6 +1,6 @@
 -- A round's first step: forced literals. A set of literals is a row of marks with a place for each literal's number, 1
 -- where the literal is in the set.
-use Rattle.std.specs.Prelude.{ℕ, ◌+◌, ◌*◌, Bool, true, false, cond, ◌&&◌, ◌||◌, List, length, get_or, set, replicate, eqb}
+use Rattle.std.specs.Prelude.{ℕ, ◌+◌, ◌*◌, Bool, cond, ◌&&◌, ◌||◌, List, length, get_or, set, replicate, eqb}
 use Rattle.ways.specs.Ways.{run, iter, some, every, range}
 use Rattle.tables.specs.Literal.{opp}
 use Rattle.tables.specs.Clause.{void}

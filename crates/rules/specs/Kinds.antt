@@ -1,5 +1,5 @@
 -- The kind table, and each kind's rule of value.
-use Rattle.std.specs.Prelude.{ℕ, ◌+◌, Bool, true, false, cond, not, List, [], ◌∷◌, get_or, eqb}
+use Rattle.std.specs.Prelude.{ℕ, ◌+◌, Bool, cond, not, List, [], ◌∷◌, get_or, eqb}
 use Prim.Native.String.{String}
 use Rattle.ways.specs.Ways.{some, every, oddly}
 use Rattle.tables.specs.Literal.{var, neg, holds}

@@ -1,6 +1,6 @@
 -- A round's third step: pairs, and what each variable gives way to. One row says for each variable which literal it
 -- stands for: itself, another variable's literal, or 0 or 1, its value.
-use Rattle.std.specs.Prelude.{ℕ, ◌+◌, ◌*◌, Bool, cond, not, ◌&&◌, List, [], ◌∷◌, map, length, get_or, eqb, ltb}
+use Rattle.std.specs.Prelude.{ℕ, ◌+◌, ◌*◌, Bool, cond, not, ◌&&◌, List, ◌∷◌, map, length, get_or, eqb, ltb}
 use Rattle.ways.specs.Ways.{run, keep, range, among}
 use Rattle.tables.specs.Literal.{var, neg, opp}
 use Rattle.rules.specs.Forced.{marked}

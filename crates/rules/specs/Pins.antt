@@ -1,5 +1,5 @@
 -- The pin book.
-use Rattle.std.specs.Prelude.{ℕ, zero, suc, ◌+◌, ◌-◌, Bool, true, false, ◌||◌, List, [], ◌∷◌, ℤ, pos, set, take, replicate, eqb, ltb}
+use Rattle.std.specs.Prelude.{ℕ, ◌+◌, ◌-◌, Bool, true, false, ◌||◌, List, ℤ, pos, set, take, replicate, eqb, ltb}
 use Rattle.tables.specs.Sizes.{most_pins}
 use Rattle.tables.specs.Literal.{literal, var}
 use Rattle.tables.specs.declared.Verdict.TheVariants.{Accepted, Refused}

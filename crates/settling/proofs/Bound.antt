@@ -3,7 +3,7 @@ use Prim.Native.Nat.{ℕ, zero, suc, ◌+◌, ◌*◌, ◌≤◌, ◌<◌}
 use mathlib.Core.Path.{◌≡◌, refl, sym, ap, ◌∙◌, subst}
 use mathlib.Core.Bool.{Bool, true, false, cond, ◌&&◌}
 use mathlib.Core.List.{List, [], ◌∷◌, map, Memᴰ}
-use mathlib.Core.Logic.{◌⊎◌, ⊎_elim}
+use mathlib.Core.Logic.{⊎_elim}
 use native.Mathlib.Omega.{arith}
 use lib.ListN.{length, get_or, length-map}
 use lib.Dec.{eqb, ltb, eqb-suc-zero}
@@ -18,7 +18,6 @@ use Rattle.tables.specs.Literal.{var, opp}
 use Rattle.tables.proofs.Literals.{var_pos, var-opp, same-var}
 use Rattle.tables.proofs.Checked.{Inside}
 use Rattle.rules.specs.Forced.{forced, contradicts}
-use Rattle.rules.specs.Clean.{clean}
 use Rattle.rules.specs.Pairs.{pairs, stands, replace, give_way, meet, join, starting, leaders, torn, root}
 use Rattle.rules.specs.Rounds.{Round, stuck, ended, goes_on, paired, cleaned, round, Outcome, impossible, settled, after, rounds, outcome}
 use Rattle.settling.proofs.Proper.{Distinct, more, Proper, rising_distinct, clean_proper}

@@ -1,13 +1,13 @@
 -- Cleaning keeps the assignments that satisfy the clauses, where the forced literals are true.
 use Prim.Native.Nat.{ℕ}
 use mathlib.Core.Path.{◌≡◌, refl, sym, ap, ◌∙◌, subst}
-use mathlib.Core.Bool.{Bool, true, false, cond, ◌&&◌, ◌||◌, not, and-true, or-false, or_comm}
+use mathlib.Core.Bool.{Bool, true, false, cond, ◌&&◌, ◌||◌, and-true, or-false, or_comm}
 use mathlib.Core.List.Memᴰ
 use mathlib.Core.List.{List, [], ◌∷◌, ◌++◌, Memᴰ}
 use mathlib.Core.Logic.{◌⊎◌, inl, inr, ⊎_elim}
 use lib.Dec.{eqb, ltb}
 use borrow.Author.Tests.{eqb-true, not-true}
-use Rattle.ways.specs.Ways.{run, some, every, among}
+use Rattle.ways.specs.Ways.{some, every, among}
 use Rattle.ways.proofs.Bools.{or_cases, or_swap, or_twice, and_idle}
 use Rattle.ways.proofs.Runs.{run_keeps, run-every, run-some}
 use Rattle.ways.proofs.Rows.{every_all, every_append, some_in, in_some, none_of}

@@ -1,13 +1,13 @@
 -- Forced literals are true in every assignment that satisfies the clauses.
 use Prim.Native.Nat.{ℕ, zero, suc, ◌+◌, ◌*◌}
 use mathlib.Core.Path.{◌≡◌, refl, sym, ap, ◌∙◌, subst}
-use mathlib.Core.Bool.{Bool, true, false, cond, ◌||◌}
+use mathlib.Core.Bool.{Bool, true, false, cond}
 use mathlib.Core.List.{List, [], ◌∷◌, Memᴰ}
 use mathlib.Core.Logic.{◌⊎◌, inl, inr, ⊎_elim}
 use lib.ListN.{set, replicate}
 use lib.Dec.{eqb}
 use borrow.Author.Tests.{eqb-true, not-true}
-use Rattle.ways.specs.Ways.{run, every}
+use Rattle.ways.specs.Ways.{run}
 use Rattle.ways.proofs.Bools.{clash_of, or_cases}
 use Rattle.ways.proofs.Runs.{run_keeps, iter_keeps}
 use Rattle.ways.proofs.Rows.{every_all, some_in}

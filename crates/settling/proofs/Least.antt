@@ -9,7 +9,7 @@ use lib.ListN.{length, get_or, set, replicate, length-set, length-replicate}
 use lib.Seq.{get_or-set_same}
 use lib.Dec.{eqb}
 use borrow.Author.Tests.{eqb-true, eqb-false, eq-eqb}
-use Rattle.ways.specs.Ways.{run, every}
+use Rattle.ways.specs.Ways.{run}
 use Rattle.ways.proofs.Bools.{clash_of, or_cases}
 use Rattle.ways.proofs.Runs.{run_keeps, run_grows, run_still, iter_keeps, iter_closed}
 use Rattle.ways.proofs.Rows.{every_all, all_every}

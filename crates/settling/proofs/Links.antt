@@ -1,13 +1,13 @@
 -- Pairs and classes: in an assignment that satisfies the clauses each variable has the value of what it stands for.
 use Prim.Native.Nat.{ℕ, zero, suc, ◌+◌, ◌*◌}
 use mathlib.Core.Path.{◌≡◌, refl, sym, ap, ◌∙◌}
-use mathlib.Core.Bool.{Bool, true, false, cond, not, ◌&&◌, ◌||◌}
+use mathlib.Core.Bool.{Bool, true, false, cond, not, ◌||◌}
 use mathlib.Core.List.{List, [], ◌∷◌, map, Memᴰ}
 use native.Mathlib.Omega.{arith}
 use lib.ListN.{length, get_or}
 use lib.Dec.{eqb, ltb}
 use borrow.Author.Tests.{eqb-true, not-true}
-use Rattle.ways.specs.Ways.{run, some, every, keep, range, among}
+use Rattle.ways.specs.Ways.{some, range, among}
 use Rattle.ways.proofs.Bools.{clash_of, and_left, and_right}
 use Rattle.ways.proofs.Runs.{run_keeps}
 use Rattle.ways.proofs.Rows.{every_all, keep_in}

@@ -3,8 +3,8 @@
 use Prim.Native.Nat.{ℕ, zero, suc, ◌+◌, ◌*◌, ◌≤◌}
 use mathlib.Core.Path.{◌≡◌, refl, sym, ap, ◌∙◌, subst}
 use mathlib.Core.Bool.{Bool, true, false, cond, ◌||◌}
-use mathlib.Core.List.{List, [], ◌∷◌, map}
-use mathlib.Core.Logic.{◌⊎◌, ◌↔◌}
+use mathlib.Core.List.{List, [], map}
+use mathlib.Core.Logic.{◌↔◌}
 use native.Mathlib.Omega.{arith}
 use lib.ListN.{length, get_or, length-map}
 use lib.Dec.{eqb}
@@ -13,10 +13,9 @@ use Rattle.ways.proofs.Members.{range_size}
 use Rattle.tables.specs.Literal.{var, holds}
 use Rattle.tables.specs.Clause.{satisfies_all}
 use Rattle.tables.proofs.Literals.{var_pos, holds_pos}
-use Rattle.tables.proofs.Clauses.{All, maps_hold}
+use Rattle.tables.proofs.Clauses.{maps_hold}
 use Rattle.tables.proofs.Checked.{Inside}
-use Rattle.rules.specs.Forced.{marked, clash, empty, contradicts, forced}
-use Rattle.rules.specs.Clean.{clean}
+use Rattle.rules.specs.Forced.{marked, clash, empty, contradicts}
 use Rattle.rules.specs.Pairs.{pairs, stands, replace, alone, starting, torn}
 use Rattle.rules.specs.Rounds.{Round, stuck, ended, goes_on, paired, cleaned, round, Outcome, impossible, settled, after, rounds, outcome}
 use Rattle.settling.proofs.Links.{Agrees}

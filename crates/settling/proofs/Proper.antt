@@ -1,14 +1,14 @@
 -- The cleaned clauses are proper: their literals rise, and no variable stands twice in one.
 use Prim.Native.Nat.{ℕ, ◌≤◌, ◌<◌}
-use mathlib.Core.Path.{◌≡◌, refl, sym, ap, ◌∙◌, subst}
+use mathlib.Core.Path.{◌≡◌, refl, sym, subst}
 use mathlib.Core.Bool.{Bool, true, false, cond, ◌||◌}
 use mathlib.Core.List.Memᴰ
 use mathlib.Core.List.{List, [], ◌∷◌, ◌++◌, Memᴰ}
-use mathlib.Core.Logic.{◌⊎◌, inl, inr, ⊎_elim}
+use mathlib.Core.Logic.{⊎_elim}
 use native.Mathlib.Omega.{arith}
 use lib.Dec.{eqb, ltb}
 use borrow.Author.Tests.{eqb-true, eqb-false, ltb-true, ltb-false}
-use Rattle.ways.specs.Ways.{run, some, has, among}
+use Rattle.ways.specs.Ways.{some, among}
 use Rattle.ways.proofs.Bools.{never_both}
 use Rattle.ways.proofs.Runs.{run_keeps}
 use Rattle.ways.proofs.Rows.{in_some}

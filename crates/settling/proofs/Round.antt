@@ -1,20 +1,20 @@
 -- One round, forward and backward: an assignment that satisfies its clauses agrees with what the variables stand for after
 -- it and satisfies what it leaves, and the other way round; a contradiction is satisfied by none.
-use Prim.Native.Nat.{ℕ, zero, suc, ◌+◌, ◌*◌, ◌≤◌, ◌<◌}
+use Prim.Native.Nat.{ℕ, suc, ◌+◌, ◌*◌, ◌≤◌, ◌<◌}
 use mathlib.Core.Path.{◌≡◌, refl, sym, ap, ◌∙◌, subst}
-use mathlib.Core.Bool.{Bool, true, false, cond, not, ◌&&◌, ◌||◌}
+use mathlib.Core.Bool.{Bool, true, false, not, ◌&&◌}
 use mathlib.Core.List.{List, [], ◌∷◌, map, Memᴰ}
-use mathlib.Core.Logic.{◌⊎◌, inl, inr, ⊎_elim}
+use mathlib.Core.Logic.{⊎_elim}
 use native.Mathlib.Omega.{arith}
 use lib.ListN.{length, get_or, length-map, get_or-eq_default}
 use lib.Dec.{eqb, ltb, eqb-suc-zero}
 use borrow.Author.Tests.{eqb-true, not-true, ltb-true, ltb-false}
-use Rattle.ways.specs.Ways.{run, some, every, keep, range, among}
+use Rattle.ways.specs.Ways.{run, some, range, among}
 use Rattle.ways.proofs.Bools.{clash_of, and_left, and_right}
 use Rattle.ways.proofs.Runs.{run_keeps}
 use Rattle.ways.proofs.Rows.{every_all, some_in, none_of, keep_in}
 use Rattle.ways.proofs.Members.{map-mem, mem-range, range_size, get_or-mem, get_or-map}
-use Rattle.tables.specs.Literal.{var, neg, opp, holds}
+use Rattle.tables.specs.Literal.{var, opp, holds}
 use Rattle.tables.specs.Clause.{satisfies, satisfies_all}
 use Rattle.tables.proofs.Literals.{two_forms, holds_pos, holds-neg, holds-zero, holds_one}
 use Rattle.tables.proofs.Clauses.{All}

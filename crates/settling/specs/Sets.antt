@@ -1,5 +1,5 @@
 -- Sets of literals that are closed under 01's rule for forced literals.
-use Rattle.std.specs.Prelude.{ℕ, ◌≡◌, Bool, true, false}
+use Rattle.std.specs.Prelude.{ℕ, ◌≡◌, false}
 use mathlib.Core.List.{List, Memᴰ}
 use Rattle.tables.specs.Literal.{opp}
 use Rattle.tables.specs.Clause.{void}

@@ -1,1 +1,2 @@
 // Theorems about the rounds: no code.
+#![tactic(auto)]

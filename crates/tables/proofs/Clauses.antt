@@ -1,12 +1,11 @@
 -- Laws of clauses under an assignment.
 use Prim.Native.Nat.{ℕ}
-use mathlib.Core.Path.{◌≡◌, refl, sym, ap, ◌∙◌}
-use mathlib.Core.Bool.{Bool, true, false, not, ◌&&◌, ◌||◌}
+use mathlib.Core.Path.{◌≡◌, refl, ap, ◌∙◌}
+use mathlib.Core.Bool.{Bool, true, false, not, ◌&&◌}
 use mathlib.Core.List.{List, [], ◌∷◌, ◌++◌, map, Memᴰ}
 use lib.IntN.{ℤ}
-use lib.Dec.{eqb}
 use borrow.Author.Tests.{eq-eqb, ne_eqb}
-use Rattle.ways.specs.Ways.{some, every, has}
+use Rattle.ways.specs.Ways.{some}
 use Rattle.ways.proofs.Rows.{some_in, in_some, every_append, some_alike, every-alike, some-map, every-map}
 use Rattle.ways.proofs.Members.{has-mem}
 use Rattle.tables.specs.Literal.{literal, var, opp, holds}

@@ -1,5 +1,5 @@
 -- The table check: 2 and 3 over a lent table, with the entry place.
-use Rattle.std.specs.Prelude.{ℕ, ◌+◌, Bool, true, false, List, [], ◌∷◌, ℤ, length, eqb, leb, ltb}
+use Rattle.std.specs.Prelude.{ℕ, ◌+◌, true, false, List, [], ◌∷◌, ℤ, length, eqb, leb, ltb}
 use Rattle.tables.specs.Sizes.{most_variables, most_clauses, most_entries, most_literals}
 use Rattle.tables.specs.Literal.{literal, var}
 use Rattle.tables.specs.declared.Verdict.{Verdict}

@@ -1,7 +1,7 @@
 -- Literals and their values. A table's entry v is written here as the number 2v, and −v as 2v + 1: so the number of a
 -- literal tells its variable and its sign, and the order of the numbers is the order of the variables. There is no
 -- variable 0; its two numbers 0 and 1 are used for the values 0 and 1 themselves.
-use Rattle.std.specs.Prelude.{ℕ, zero, suc, ◌+◌, ◌-◌, ◌*◌, ◌/◌, ◌%◌, Bool, true, false, cond, not, List, ℤ, pos, negsuc, neg_ℤ, get_or, eqb}
+use Rattle.std.specs.Prelude.{ℕ, zero, suc, ◌+◌, ◌-◌, ◌*◌, ◌/◌, ◌%◌, Bool, false, cond, not, List, ℤ, pos, negsuc, neg_ℤ, get_or, eqb}
 
 -- "A literal is v or −v."
 unfoldable pub literal : ℤ → ℕ

@@ -1,5 +1,5 @@
 -- The look-up of one clause.
-use Rattle.std.specs.Prelude.{ℕ, zero, suc, ◌+◌, ◌-◌, Bool, true, false, List, [], ◌∷◌, ℤ, length, take, drop, eqb}
+use Rattle.std.specs.Prelude.{ℕ, zero, suc, ◌+◌, true, false, List, [], ◌∷◌, ℤ, length, take, drop, eqb}
 use Rattle.tables.specs.Literal.{literal}
 use Rattle.tables.specs.Check.{checked}
 use Rattle.tables.specs.declared.Verdict.{Verdict}

@@ -1,5 +1,5 @@
 -- The numbers after the header.
-use Rattle.std.specs.Prelude.{ℕ, ◌+◌, Bool, true, false, List, [], ◌∷◌, map, ℤ, eqb, leb, ltb}
+use Rattle.std.specs.Prelude.{ℕ, ◌+◌, true, false, List, [], ◌∷◌, map, ℤ, eqb, leb, ltb}
 use Rattle.tables.specs.Sizes.{most_entries, most_literals}
 use Rattle.tables.specs.Literal.{entry, var}
 use Rattle.tables.specs.declared.Verdict.{Verdict}

@@ -1,5 +1,5 @@
 -- Texts and tables, and what 01 says of each. One statement runs the definitions over all of them.
-use Rattle.std.specs.Prelude.{ℕ, ◌+◌, ◌≡◌, refl, Bool, true, false, not, ◌&&◌, ◌||◌, List, [], ◌∷◌, ◌++◌, map, ℤ, pos, length, get_or, take, drop, replicate, eqb, leb, ltb}
+use Rattle.std.specs.Prelude.{ℕ, ◌≡◌, refl, Bool, true, false, ◌&&◌, List, [], ◌∷◌, ◌++◌, map, pos, length, replicate, eqb}
 use Prim.Native.Char.{code}
 use Prim.Native.String.{String, [] as nothing, ◌∷◌ as ◌then◌}
 use Rattle.ways.specs.Ways.{every, same}

@@ -1,5 +1,5 @@
 -- Numbers written out, in clause text and in the listing.
-use Rattle.std.specs.Prelude.{ℕ, zero, suc, ◌+◌, ◌/◌, ◌%◌, Bool, true, false, List, [], ◌∷◌, ◌++◌, ltb}
+use Rattle.std.specs.Prelude.{ℕ, zero, suc, ◌+◌, ◌/◌, ◌%◌, true, false, List, [], ◌∷◌, ◌++◌, ltb}
 use Rattle.tables.specs.Literal.{var, neg}
 
 -- The decimal digits of v as bytes, at most f + 1 of them.

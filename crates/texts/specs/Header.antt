@@ -5,7 +5,6 @@ use Rattle.tables.specs.Sizes.{most_variables, most_clauses}
 use Rattle.texts.specs.Bytes.{line}
 use Rattle.texts.specs.Tokens.{Token, tokens_at}
 use Rattle.texts.specs.Numbers.{natural}
-use Rattle.texts.specs.declared.Numeral.{Numeral}
 use Rattle.texts.specs.declared.Numeral.TheVariants.{Bad, Good}
 use Rattle.texts.specs.declared.Header.{Header}
 use Rattle.texts.specs.declared.Header.TheVariants.{Refused, Sizes}

@@ -1,5 +1,5 @@
 -- The reading of a clause text.
-use Rattle.std.specs.Prelude.{ℕ, Bool, true, false, List, [], ℤ, length, leb, ltb}
+use Rattle.std.specs.Prelude.{ℕ, true, false, List, [], ℤ, length, leb, ltb}
 use Rattle.tables.specs.Sizes.{most_bytes}
 use Rattle.tables.specs.declared.Verdict.{Verdict}
 use Rattle.tables.specs.declared.Verdict.TheVariants as Of

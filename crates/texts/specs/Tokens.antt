@@ -1,5 +1,5 @@
 -- The tokens of a text. Everything that reads text judges a row of tokens, never bytes.
-use Rattle.std.specs.Prelude.{ℕ, zero, suc, ◌+◌, Bool, true, false, List, [], ◌∷◌, take, drop}
+use Rattle.std.specs.Prelude.{ℕ, zero, suc, ◌+◌, true, false, List, [], ◌∷◌, take, drop}
 use Rattle.texts.specs.Bytes.{blank, word}
 
 -- "A token's place is its first byte."

@@ -1,5 +1,5 @@
 -- Written clause text.
-use Rattle.std.specs.Prelude.{ℕ, Bool, true, false, List, [], ◌∷◌, ◌++◌, ℤ, length, eqb, leb}
+use Rattle.std.specs.Prelude.{ℕ, true, false, List, [], ◌∷◌, ◌++◌, ℤ, length, eqb, leb}
 use Rattle.tables.specs.Literal.{literal}
 use Rattle.tables.specs.Clause.{clauses}
 use Rattle.tables.specs.Check.{checked}

@@ -1,5 +1,5 @@
 -- Counting what passes a test.
-use Prim.Native.Nat.{ℕ, zero, suc, ◌+◌, ◌≤◌, ◌<◌}
+use Prim.Native.Nat.{suc, ◌≤◌, ◌<◌}
 use mathlib.Core.Path.{◌≡◌, refl, sym, ap, ◌∙◌}
 use mathlib.Core.Bool.{Bool, true, false, cond}
 use mathlib.Core.List.{List, [], ◌∷◌, Memᴰ}
@@ -39,6 +39,7 @@ module _ {X : Type 0} (p q : X → Bool) (less : (x : X) → q x ≡ true → p 
 
   pub count_less : (xs : List X) (y : X) → Memᴰ y xs → p y ≡ true → q y ≡ false → length (keep q xs) < length (keep p xs)
   unfolding keep
+  count_less [] y i e f = elim i [ ]
   count_less (x ∷ xs) y (Memᴰ.head r) e f = rw (ap p (sym r) ∙ e, ap q (sym r) ∙ f) (omega (arith, count_le xs))
   count_less (x ∷ xs) y (Memᴰ.tail i) e f = go (p x) refl (q x) refl (count_less xs y i e f)
     where

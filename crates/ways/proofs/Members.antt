@@ -1,15 +1,15 @@
 -- Laws of membership: in rows of numbers, in rows of rows, in ranges, and at a place.
 use Prim.Native.Nat.{ℕ, zero, suc, ◌+◌, ◌≤◌, ◌<◌}
-use mathlib.Core.Path.{◌≡◌, refl, sym, ap, ◌∙◌, subst}
-use mathlib.Core.Bool.{Bool, true, false, ◌&&◌}
+use mathlib.Core.Path.{◌≡◌, refl, sym, ap, subst}
+use mathlib.Core.Bool.{Bool, true, false}
 use mathlib.Core.List.Memᴰ
-use mathlib.Core.List.{List, [], ◌∷◌, ◌++◌, map, flat_map, Memᴰ}
-use mathlib.Core.Logic.{◌⊎◌, inl, inr, ⊎_elim}
+use mathlib.Core.List.{List, [], ◌∷◌, map, flat_map, Memᴰ}
+use mathlib.Core.Logic.{⊎_elim}
 use native.Mathlib.Omega.{arith}
 use lib.ListN.{length, get_or}
 use lib.Dec.{eqb}
 use borrow.Author.Tests.{eqb-true, eqb-false, eq-eqb}
-use Rattle.ways.specs.Ways.{some, every, range, has, same, among}
+use Rattle.ways.specs.Ways.{range, has, same, among}
 use Rattle.ways.proofs.Bools.{clash_of, and_left, and_right}
 use Rattle.ways.proofs.Rows.{some_in, in_some}
 
@@ -57,6 +57,7 @@ flat_mem f (x ∷ xs) y i =
 
 pub mem_flat : {X Y : Type 0} (f : X → List Y) (xs : List X) (x : X) (y : Y) → Memᴰ x xs → Memᴰ y (f x) → Memᴰ y (flat_map f xs)
 unfolding flat_map
+mem_flat {X = X} {Y = Y} f [] x y i j = elim i [ ]
 mem_flat f (z ∷ xs) x y (Memᴰ.head e) j = Memᴰ.append_left (flat_map f xs) (subst (λ w. Memᴰ y (f w)) e j)
 mem_flat f (z ∷ xs) x y (Memᴰ.tail i) j = Memᴰ.append_right (f z) (mem_flat f xs x y i j)
 

@@ -1,7 +1,7 @@
 -- Laws of tests over a row: turn by turn for loops, and by membership for theorems.
 use Prim.Native.Nat.{ℕ, ◌+◌, ◌≤◌, ◌<◌}
 use mathlib.Core.Path.{◌≡◌, refl, sym, ap, ◌∙◌}
-use mathlib.Core.Bool.{Bool, true, false, cond, ◌&&◌, ◌||◌, not, xor}
+use mathlib.Core.Bool.{Bool, true, false, cond, ◌&&◌, ◌||◌, not}
 use mathlib.Core.List.Memᴰ
 use mathlib.Core.List.{List, [], ◌∷◌, ◌++◌, map, Memᴰ}
 use mathlib.Core.Logic.{◌⊎◌, inl, inr, ⊎_elim}
@@ -32,6 +32,7 @@ module _ {X : Type 0} (p : X → Bool) where
   -- By membership.
   pub every_all : (xs : List X) → every p xs ≡ true → (x : X) → Memᴰ x xs → p x ≡ true
   unfolding every
+  every_all [] e x i = elim i [ ]
   every_all (y ∷ xs) e x (Memᴰ.head q) = ap p q ∙ and_left (p y) (every p xs) e
   every_all (y ∷ xs) e x (Memᴰ.tail m) = every_all xs (and_right (p y) (every p xs) e) x m
 
@@ -51,6 +52,7 @@ module _ {X : Type 0} (p : X → Bool) where
 
   pub in_some : (xs : List X) (x : X) → Memᴰ x xs → p x ≡ true → some p xs ≡ true
   unfolding some
+  in_some [] x i e = elim i [ ]
   in_some (y ∷ xs) x (Memᴰ.head q) e = or_left (p y) (some p xs) (ap p (sym q) ∙ e)
   in_some (y ∷ xs) x (Memᴰ.tail m) e = or_right (p y) (some p xs) (in_some xs x m e)
 
@@ -73,6 +75,7 @@ module _ {X : Type 0} (p : X → Bool) where
 
   pub in_keep : (xs : List X) (x : X) → Memᴰ x xs → p x ≡ true → Memᴰ x (keep p xs)
   unfolding keep
+  in_keep [] x i e = elim i [ ]
   in_keep (y ∷ xs) x (Memᴰ.head q) e = rw (ap p (sym q) ∙ e) (Memᴰ.head q)
   in_keep (y ∷ xs) x (Memᴰ.tail i) e = go (p y) (in_keep xs x i e)
     where

@@ -71,6 +71,7 @@ module _ {S X : Type 0} (step : S → X → S) where
 
     pub run_still : (xs : List X) (s : S) → run step s xs ≡ s → (x : X) → Memᴰ x xs → step s x ≡ s
     unfolding run
+    run_still [] s e x i = elim i [ ]
     run_still (y ∷ xs) s e x (Memᴰ.head q) = ap (step s) q ∙ first_still y xs s e
     run_still (y ∷ xs) s e x (Memᴰ.tail i) = run_still xs s (subst (λ t. run step t xs ≡ s) (first_still y xs s e) e) x i
 
