@@ -1,7 +1,7 @@
 #!/usr/bin/env python3
 """Respells the names of this repository's own definitions and lemmas as today's Rattle spells names.
 
-    python3 tools/respell.py          at the top of the checkout, once, after /opt/rattle/port/port.py
+    python3 tools/respell.py          at the top of the checkout, once, after port.py of the Rattle kit
 
 Types and modules stay in camel case, everything else goes into snake case. A dash stays only between two names after
 which a lemma is named, as in holds-opp, of which both are functions; a plain word hangs on by an underscore, as in

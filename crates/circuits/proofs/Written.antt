@@ -66,13 +66,13 @@ module _ (c : List ℕ) (o : ℕ) where
     unfolding and_form side
     and_speaks =
         record {
-          output_in = λ d k. ⊎_elim (λ e. (o, Memᴰ_mv (sym e) i, refl)) (λ k. let (y, j, q) = map-mem (side o) (others o c) d k in (opp o, subst (Memᴰ (opp o)) (sym q) (insert-has (opp o) (insert (opp y) [])), var-opp o)) (Memᴰ.cases_cons k);
+          output_in = λ d k. ⊎_elim (λ e. (o, mem_mv (sym e) i, refl)) (λ k. let (y, j, q) = map-mem (side o) (others o c) d k in (opp o, subst (Memᴰ (opp o)) (sym q) (insert-has (opp o) (insert (opp y) [])), var-opp o)) (Memᴰ.cases_cons k);
           only = λ d k l j. ⊎_elim (λ e. in_anchor l (subst (Memᴰ l) e j)) (λ k. let (y, h, q) = map-mem (side o) (others o c) d k in
               ⊎_elim inl (λ e. let (x, w, r) = as_and_input y h in inr (x, w, r ∙ sym e)) (side_only y l (subst (Memᴰ l) q j))) (Memᴰ.cases_cons k);
         }
       where
-        Memᴰ_mv : {d e : List ℕ} → d ≡ e → Memᴰ o d → Memᴰ o e
-        Memᴰ_mv q m = subst (Memᴰ o) q m
+        mem_mv : {d e : List ℕ} → d ≡ e → Memᴰ o d → Memᴰ o e
+        mem_mv q m = subst (Memᴰ o) q m
 
         in_anchor : (l : ℕ) → Memᴰ l c → (var l ≡ var o) ⊎ ((x : ℕ) × Memᴰ x (and_inputs c o) × (var x ≡ var l))
         in_anchor l j = ⊎_elim (λ e. inl (ap var e)) (λ h. inr (as_and_input l h)) (split_other l j)

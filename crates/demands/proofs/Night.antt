@@ -149,9 +149,9 @@ back-stack : (d : Desk) → (take_back d.book).verdict ≡ Accepted → (move d 
 unfolding move answer stacked
 back-stack d e = rw e
 
-pub take-back_undoes : TakeBackUndoes
+pub take_back_undoes : TakeBackUndoes
 unfolding after run
-take-back_undoes ms n t work x e =
+take_back_undoes ms n t work x e =
     ap (λ (d : Desk). d.stack) (run-append move opening ms (put n t work x ∷ back ∷ []))
     ∙ back-stack d' (back-accepts d'.book (λ z. no (h.count ∙ ap length on) z) h.few) ∙ ap (λ s. take (length s - 1) s) on ∙ off_again d.stack x
   where

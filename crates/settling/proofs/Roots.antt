@@ -9,7 +9,7 @@ use lib.ListN.{length, get_or, length-map}
 use lib.Dec.{eqb, ltb}
 use borrow.Author.Tests.{eqb-false, ne_eqb, ltb-true, ltb-false}
 use Rattle.ways.specs.Ways.{range}
-use Rattle.ways.proofs.Members.{get_or-range, get_d_past}
+use Rattle.ways.proofs.Members.{get_or-range, get_or_past}
 use Rattle.tables.specs.Literal.{var, neg, opp}
 use Rattle.tables.proofs.Literals.{var_pos, neg_pos, var-opp, low_var, same-var}
 use Rattle.rules.specs.Forced.{marked}
@@ -154,7 +154,7 @@ module _ (n : ℕ) (m : List ℕ) where
 
       go : (b : Bool) → ltb v n ≡ b → (get_or (map (alone m) (range 1 n)) v (2 * suc v) < 2) ⊎ (get_or (map (alone m) (range 1 n)) v (2 * suc v) ≡ 2 * suc v)
       go true h = let e : 1 + v ≡ suc v = omega arith in rw (get_or-range (alone m) 1 n v (2 * suc v) (ltb-true v n h), e) (one (suc v))
-      go false h = inr (get_d_past (alone m) 1 n v (2 * suc v) (ltb-false v n h))
+      go false h = inr (get_or_past (alone m) 1 n v (2 * suc v) (ltb-false v n h))
 
   pub zero-root : Root (starting n m) 0
   unfolding starting stands

@@ -111,11 +111,11 @@ get_or-range f b zero v d h = absurd (no h)
 get_or-range f b (suc k) zero d h = let e : b + 0 ≡ b = omega arith in rw e
 get_or-range f b (suc k) (suc v) d h = let e : b + suc v ≡ b + 1 + v = omega arith in rw e (get_or-range f (b + 1) k v d (omega arith))
 
-pub get_d_past : {X : Type 0} (f : ℕ → X) (b k v : ℕ) (d : X) → k ≤ v → get_or (map f (range b k)) v d ≡ d
+pub get_or_past : {X : Type 0} (f : ℕ → X) (b k v : ℕ) (d : X) → k ≤ v → get_or (map f (range b k)) v d ≡ d
 unfolding range
-get_d_past f b zero v d h = refl
-get_d_past f b (suc k) zero d h = absurd (no h)
+get_or_past f b zero v d h = refl
+get_or_past f b (suc k) zero d h = absurd (no h)
   where
     no : suc k ≤ 0 → ⊥
     no h = omega arith
-get_d_past f b (suc k) (suc v) d h = get_d_past f (b + 1) k v d (omega arith)
+get_or_past f b (suc k) (suc v) d h = get_or_past f (b + 1) k v d (omega arith)
