@@ -17,7 +17,7 @@ use Rattle.rules.specs.Taking.{is_output}
 use Rattle.rules.specs.Circuit.{levels}
 use Rattle.rules.specs.Fill.{fill_step}
 use Rattle.rules.specs.Ask.{ask_root}
-use Rattle.circuits.proofs.Values.{rule-alike}
+use Rattle.circuits.proofs.Values.{rule_alike}
 use Rattle.circuits.proofs.Order.{Ordered, none, next}
 use Rattle.circuits.proofs.Filled.{Within, fill_other, fill_rules}
 use Rattle.circuits.proofs.Levels.{level_is, level_rises, levels_low}
@@ -91,7 +91,7 @@ module _ (n : ℕ) {gs : List Gate} (order : Ordered gs) (w : Within n gs) (give
       go true e below =
           let (g, i, q) = gate_of_output gs v e in
           pick_gate (ask_root deep gs (valued given)) v order g i q (valued given v)
-          ∙ rule-alike (ask_root deep gs (valued given)) end g.kind g.inputs (λ x j. below (var x) (less g i q x j))
+          ∙ rule_alike (ask_root deep gs (valued given)) end g.kind g.inputs (λ x j. below (var x) (less g i q x j))
           ∙ sym (fill_rules n order w given long g i) ∙ ap end q
         where
           less : (g : Gate) → Memᴰ g gs → g.output ≡ v → (x : ℕ) → Memᴰ x g.inputs → get_or (levels n gs) (var x) 0 ≤ deep

@@ -12,7 +12,7 @@ use Rattle.tables.specs.Literal.{var, valued}
 use Rattle.rules.specs.Kinds.{rule}
 use Rattle.rules.specs.Patterns.{Gate}
 use Rattle.rules.specs.Fill.{bit, fill_step}
-use Rattle.circuits.proofs.Values.{rule-alike}
+use Rattle.circuits.proofs.Values.{rule_alike}
 use Rattle.circuits.proofs.Order.{Ordered, none, next}
 
 -- A row of values with one value changed.
@@ -89,6 +89,6 @@ fill_rules n (next {g = g} {gs = gs} s b o) w values l h (Memᴰ.head q) = subst
     first : valued end g.output ≡ rule g.kind (valued end) g.inputs
     first =
         fill_other n gs rest (fill_step values g) g.output (λ f j. (b f j).other) ∙ step_same values g low.0 (omega (arith, low.1))
-        ∙ rule-alike (valued values) (valued end) g.kind g.inputs inputs
+        ∙ rule_alike (valued values) (valued end) g.kind g.inputs inputs
 fill_rules n (next {g = g} s b o) w values l h (Memᴰ.tail i) =
     fill_rules n o (λ f j. w f (Memᴰ.tail j)) (fill_step values g) (rw (step_long values g) l) h i

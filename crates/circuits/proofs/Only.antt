@@ -14,7 +14,7 @@ use Rattle.ways.specs.Ways.{run}
 use Rattle.tables.specs.Literal.{var, valued}
 use Rattle.rules.specs.Patterns.{Gate}
 use Rattle.rules.specs.Fill.{fill_step}
-use Rattle.circuits.proofs.Values.{rule-alike}
+use Rattle.circuits.proofs.Values.{rule_alike}
 use Rattle.circuits.proofs.Patterns.{Meets}
 use Rattle.circuits.proofs.Order.{Ordered, none, next}
 use Rattle.circuits.proofs.Filled.{Within, step_long, step_other, step_same}
@@ -49,7 +49,7 @@ module _ (P : ℕ → Type 0) (n : ℕ) (a : ℕ → Bool) where
           go true e =
               let q : v ≡ g.output = eqb-true v g.output e in
               ap (valued (fill_step values g)) q ∙ step_same values g (w g here).0 (omega (arith, (w g here).1))
-              ∙ rule-alike (valued values) a g.kind g.inputs inputs ∙ sym (meets g here) ∙ ap a (sym q)
+              ∙ rule_alike (valued values) a g.kind g.inputs inputs ∙ sym (meets g here) ∙ ap a (sym q)
           go false e =
               step_other values g v (w g here).0 (eqb-false v g.output e)
               ∙ same v p (λ h j q. ⊎_elim (λ r. eqb-false v g.output e (q ∙ ap (λ (f : Gate). f.output) r)) (λ r. k h r q) (Memᴰ.cases_cons j))

@@ -10,17 +10,17 @@ use lib.Dec.{eqb}
 use borrow.Author.Tests.{eqb-true, eq-eqb, ne_eqb}
 use Rattle.ways.specs.Ways.{some, every, oddly, keep}
 use Rattle.ways.proofs.Bools.{agree, or_cases, or_left, or_right}
-use Rattle.ways.proofs.Rows.{some_in, in_some, keep_in, in_keep, every-map, every-alike, every-not, oddly-map}
+use Rattle.ways.proofs.Rows.{some_in, in_some, keep_in, in_keep, every-map, every_alike, every-not, oddly-map}
 use Rattle.tables.specs.Literal.{var, neg, opp, holds}
 use Rattle.tables.specs.Clause.{satisfies, satisfies_all}
 use Rattle.tables.proofs.Literals.{holds_pos, holds-neg, holds-opp}
-use Rattle.tables.proofs.Clauses.{all-append}
+use Rattle.tables.proofs.Clauses.{all_append}
 use Rattle.rules.specs.Clean.{insert}
 use Rattle.rules.specs.Kinds.{rule}
 use Rattle.rules.specs.Patterns.{Gate, others, side, and_inputs, and_form, signings, odd, group, parity}
 use Rattle.settling.proofs.Clean.{insert_sat}
 use Rattle.settling.proofs.Proper.{Distinct, more}
-use Rattle.circuits.proofs.Values.{and-rule, parity-rule}
+use Rattle.circuits.proofs.Values.{and_rule, parity_rule}
 
 iff : (p v w : Bool) → p ≡ beq v w → (p ≡ true) ↔ (v ≡ w)
 iff p v w e = ((λ q. replace v w (sym e ∙ q)), (λ q. e ∙ from v w q))
@@ -72,7 +72,7 @@ module _ (a : ℕ → Bool) where
   unfolding oddly
   signings_sat [] odd = none_sat odd
   signings_sat (v ∷ vs) odd =
-      rw (cons, all-append a _ _, under (2 * v) (signings vs odd), under (2 * v + 1) (signings vs (not odd)), holds_pos a v, holds-neg a v, signings_sat vs odd, signings_sat vs (not odd))
+      rw (cons, all_append a _ _, under (2 * v) (signings vs odd), under (2 * v + 1) (signings vs (not odd)), holds_pos a v, holds-neg a v, signings_sat vs odd, signings_sat vs (not odd))
       (choose (a v) odd (oddly a vs))
 
   -- the gate's equation
@@ -107,11 +107,11 @@ module _ (a : ℕ → Bool) where
           table false q r = refl
 
   not_some : (xs : List ℕ) → every (holds a) (map opp xs) ≡ not (some (holds a) xs)
-  not_some xs = every-map opp (holds a) xs ∙ every-alike (λ x. holds a (opp x)) (λ x. not (holds a x)) xs (λ x i. holds-opp a x) ∙ every-not (holds a) xs
+  not_some xs = every-map opp (holds a) xs ∙ every_alike (λ x. holds a (opp x)) (λ x. not (holds a x)) xs (λ x i. holds-opp a x) ∙ every-not (holds a) xs
 
   and_value : (c : List ℕ) (o : ℕ) → rule (and_form c o).kind a (and_form c o).inputs ≡ cond (neg o) (satisfies a (others o c)) (not (satisfies a (others o c)))
   unfolding and_form and_inputs satisfies
-  and_value c o = and-rule a o (and_inputs c o) ∙ go (neg o)
+  and_value c o = and_rule a o (and_inputs c o) ∙ go (neg o)
     where
       xs : List ℕ
       xs = others o c
@@ -148,16 +148,16 @@ module _ (a : ℕ → Bool) where
   xor_swap false true false = refl
   xor_swap false false r = refl
 
-  parity-table : (p v s : Bool) → xor p (xor v s) ≡ beq v (cond p s (not s))
+  parity_table : (p v s : Bool) → xor p (xor v s) ≡ beq v (cond p s (not s))
   unfolding xor
-  parity-table true true true = refl
-  parity-table true true false = refl
-  parity-table true false true = refl
-  parity-table true false false = refl
-  parity-table false true true = refl
-  parity-table false true false = refl
-  parity-table false false true = refl
-  parity-table false false false = refl
+  parity_table true true true = refl
+  parity_table true true false = refl
+  parity_table true false true = refl
+  parity_table true false false = refl
+  parity_table false true true = refl
+  parity_table false true false = refl
+  parity_table false false true = refl
+  parity_table false false false = refl
 
   pub odd-others : (p : ℕ → Bool) (c : List ℕ) (o : ℕ) → Distinct c → Memᴰ o c → oddly p c ≡ xor (p o) (oddly p (others o c))
   unfolding oddly others keep
@@ -167,4 +167,4 @@ module _ (a : ℕ → Bool) where
 
   pub parity_meets : (c : List ℕ) (o : ℕ) → Distinct c → Memᴰ o c → (satisfies_all a (parity c o).pattern ≡ true) ↔ Meets (parity c o)
   unfolding parity group
-  parity_meets c o d i = iff _ (a (var o)) _ (signings_sat (map var c) (odd c) ∙ rw (oddly-map var a c, odd-others (λ x. a (var x)) c o d i) (rw (parity-rule a (odd c) (others o c)) (parity-table (odd c) (a (var o)) (oddly (λ x. a (var x)) (others o c)))))
+  parity_meets c o d i = iff _ (a (var o)) _ (signings_sat (map var c) (odd c) ∙ rw (oddly-map var a c, odd-others (λ x. a (var x)) c o d i) (rw (parity_rule a (odd c) (others o c)) (parity_table (odd c) (a (var o)) (oddly (λ x. a (var x)) (others o c)))))

@@ -23,7 +23,7 @@ use Rattle.rules.specs.Patterns.{Gate, others, and_inputs, and_form, parity, anc
 use Rattle.rules.specs.Taking.{candidates, dependents, allowed, place, take_first, take_at, taken_by}
 use Rattle.settling.proofs.Proper.{Proper, rising_distinct}
 use Rattle.circuits.proofs.Patterns.{Meets, and_meets, parity_meets}
-use Rattle.circuits.proofs.Written.{Speaks, and_speaks, parity_speaks, and-written, parity-written}
+use Rattle.circuits.proofs.Written.{Speaks, and_speaks, parity_speaks, and_written, parity_written}
 use Rattle.circuits.proofs.Order.{Apart, Ordered, none, place_ordered}
 
 -- What holds of each gate taken.
@@ -80,7 +80,7 @@ module _ (n : ℕ) (cs : List (List ℕ)) (inside : Inside n cs) (proper : (c : 
             high = (inside c k o w).1;
             meets = λ a. and_meets a c o w;
             speaks = and_speaks c o w;
-            written = and-written c o (proper c k) w;
+            written = and_written c o (proper c k) w;
             anchor = c;
             anchored = k;
             output_of = (o, w, refl);
@@ -96,7 +96,7 @@ module _ (n : ℕ) (cs : List (List ℕ)) (inside : Inside n cs) (proper : (c : 
             high = (inside c k o w).1;
             meets = λ a. parity_meets a c o (rising_distinct (proper c k).rises) w;
             speaks = parity_speaks c o w;
-            written = parity-written c o (proper c k) w;
+            written = parity_written c o (proper c k) w;
             anchor = c;
             anchored = k;
             output_of = (o, w, refl);
@@ -111,9 +111,9 @@ module _ (n : ℕ) (cs : List (List ℕ)) (inside : Inside n cs) (proper : (c : 
     pub order : Ordered gs
     pub valid : (g : Gate) → Memᴰ g gs → Valid n cs g
 
-  place-taken : (gs : List Gate) (g : Gate) → Taken gs → Valid n cs g → allowed n gs g ≡ true → Taken (place n gs g)
+  place_taken : (gs : List Gate) (g : Gate) → Taken gs → Valid n cs g → allowed n gs g ≡ true → Taken (place n gs g)
   unfolding place
-  place-taken gs g t v ok =
+  place_taken gs g t v ok =
       record {
         order = place_ordered n gs g t.order (λ h i. let q = (t.valid h i).high in omega arith) (let q = v.high in omega arith) v.self ok;
         valid = λ h i. new h (Memᴰ.append_cases (keep (λ f. not (marked D f.output)) gs) {t = g ∷ keep (λ f. marked D f.output) gs} i);
@@ -135,7 +135,7 @@ module _ (n : ℕ) (cs : List (List ℕ)) (inside : Inside n cs) (proper : (c : 
     first_taken gs (g ∷ more) h t = go (may gs g) refl (first_taken gs more (λ f i. h f (Memᴰ.tail i)) t)
       where
         go : (b : Bool) → may gs g ≡ b → Taken (take_first may n gs more) → Taken (elim b as (λ _. List Gate) [ true ↦ place n gs g | false ↦ take_first may n gs more ])
-        go true e k = place-taken gs g t (h g (Memᴰ.head refl)) (strict gs g e)
+        go true e k = place_taken gs g t (h g (Memᴰ.head refl)) (strict gs g e)
         go false e k = k
 
     pub taken_is : Taken (taken_by may n cs)

@@ -7,9 +7,9 @@ use mathlib.Core.List.{List, map, Memᴰ}
 use lib.Dec.{eqb}
 use borrow.Author.Tests.{not-true}
 use Rattle.ways.specs.Ways.{some, every, oddly, range}
-use Rattle.ways.proofs.Rows.{every_all, every-alike, some_alike, oddly-alike, oddly-map, every-not, some-not}
+use Rattle.ways.proofs.Rows.{every_all, every_alike, some_alike, oddly_alike, oddly-map, every-not, some-not}
 use Rattle.tables.specs.Literal.{var, neg, holds}
-use Rattle.tables.proofs.Literals.{var_pos, holds_by, holds-alike}
+use Rattle.tables.proofs.Literals.{var_pos, holds_by, holds_alike}
 use Rattle.rules.specs.Kinds.{kinds, no_kind, kind_row, signs, and_kind, parity_kind, rule}
 
 -- The rows of the kind table have the signs that the kind numbers are made of.
@@ -29,23 +29,23 @@ module _ (a : ℕ → Bool) where
   minus_is ls e l i = sym (holds_by a l ∙ rw (every_all neg ls e l i))
 
   -- The and-like kinds: every input literal holds where the output is positive, some input literal where it is negative.
-  pub and-rule : (o : ℕ) (ls : List ℕ) → rule (and_kind o ls) a ls ≡ cond (neg o) (some (holds a) ls) (every (holds a) ls)
+  pub and_rule : (o : ℕ) (ls : List ℕ) → rule (and_kind o ls) a ls ≡ cond (neg o) (some (holds a) ls) (every (holds a) ls)
   unfolding and_kind signs rule
-  and-rule o ls = go (neg o) (every (λ l. not (neg l)) ls) refl (every neg ls) refl
+  and_rule o ls = go (neg o) (every (λ l. not (neg l)) ls) refl (every neg ls) refl
     where
       go : (b p : Bool) → every (λ l. not (neg l)) ls ≡ p → (q : Bool) → every neg ls ≡ q
           → rule (cond b 3 0 + cond p 0 (cond q 1 2)) a ls ≡ cond b (some (holds a) ls) (every (holds a) ls)
-      go false true e q f = every-alike (λ l. a (var l)) (holds a) ls (plus_is ls e)
-      go false false e true f = sym (every-not (λ l. a (var l)) ls) ∙ every-alike (λ l. not (a (var l))) (holds a) ls (minus_is ls f)
+      go false true e q f = every_alike (λ l. a (var l)) (holds a) ls (plus_is ls e)
+      go false false e true f = sym (every-not (λ l. a (var l)) ls) ∙ every_alike (λ l. not (a (var l))) (holds a) ls (minus_is ls f)
       go false false e false f = refl
       go true true e q f = some_alike (λ l. a (var l)) (holds a) ls (plus_is ls e)
       go true false e true f = sym (some-not (λ l. a (var l)) ls) ∙ some_alike (λ l. not (a (var l))) (holds a) ls (minus_is ls f)
       go true false e false f = refl
 
   -- The parity kinds.
-  pub parity-rule : (p : Bool) (xs : List ℕ) → rule (parity_kind p) a (map (λ x. 2 * var x) xs) ≡ cond p (oddly (λ x. a (var x)) xs) (not (oddly (λ x. a (var x)) xs))
+  pub parity_rule : (p : Bool) (xs : List ℕ) → rule (parity_kind p) a (map (λ x. 2 * var x) xs) ≡ cond p (oddly (λ x. a (var x)) xs) (not (oddly (λ x. a (var x)) xs))
   unfolding rule parity_kind
-  parity-rule p xs = go p (oddly-map (λ x. 2 * var x) (λ l. a (var l)) xs ∙ oddly-alike _ _ xs (λ x i. ap a (var_pos (var x))))
+  parity_rule p xs = go p (oddly-map (λ x. 2 * var x) (λ l. a (var l)) xs ∙ oddly_alike _ _ xs (λ x i. ap a (var_pos (var x))))
     where
       go : (p : Bool) → oddly (λ l. a (var l)) (map (λ x. 2 * var x) xs) ≡ oddly (λ x. a (var x)) xs
           → rule (cond p 6 7) a (map (λ x. 2 * var x) xs) ≡ cond p (oddly (λ x. a (var x)) xs) (not (oddly (λ x. a (var x)) xs))
@@ -54,13 +54,13 @@ module _ (a : ℕ → Bool) where
 
 -- A rule looks at its inputs only.
 module _ (a b : ℕ → Bool) where
-  pub rule-alike : (k : ℕ) (ls : List ℕ) → ((l : ℕ) → Memᴰ l ls → a (var l) ≡ b (var l)) → rule k a ls ≡ rule k b ls
+  pub rule_alike : (k : ℕ) (ls : List ℕ) → ((l : ℕ) → Memᴰ l ls → a (var l) ≡ b (var l)) → rule k a ls ≡ rule k b ls
   unfolding rule
-  rule-alike k ls h =
+  rule_alike k ls h =
       rw (
-        every-alike (λ l. a (var l)) (λ l. b (var l)) ls h,
+        every_alike (λ l. a (var l)) (λ l. b (var l)) ls h,
         some_alike (λ l. a (var l)) (λ l. b (var l)) ls h,
-        oddly-alike (λ l. a (var l)) (λ l. b (var l)) ls h,
-        every-alike (holds a) (holds b) ls (λ l i. holds-alike a b l (h l i)),
-        some_alike (holds a) (holds b) ls (λ l i. holds-alike a b l (h l i)),
+        oddly_alike (λ l. a (var l)) (λ l. b (var l)) ls h,
+        every_alike (holds a) (holds b) ls (λ l i. holds_alike a b l (h l i)),
+        some_alike (holds a) (holds b) ls (λ l i. holds_alike a b l (h l i)),
       )

@@ -16,7 +16,7 @@ use Rattle.ways.proofs.Rows.{every_all, all_every, keep_in, in_keep}
 use Rattle.ways.proofs.Members.{among-mem, map-mem, get_or-mem, get_or-range, range_size}
 use Rattle.tables.specs.Literal.{var, holds, valued}
 use Rattle.tables.specs.Clause.{satisfies, satisfies_all}
-use Rattle.tables.proofs.Literals.{holds_pos, holds-alike}
+use Rattle.tables.proofs.Literals.{holds_pos, holds_alike}
 use Rattle.tables.proofs.Clauses.{alikes_hold}
 use Rattle.tables.proofs.Checked.{Inside}
 use Rattle.rules.specs.Pairs.{stands, fixed, root, linked}
@@ -28,7 +28,7 @@ use Rattle.rules.specs.Ask.{ask_root, asked}
 use Rattle.settling.proofs.Links.{Agrees}
 use Rattle.settling.proofs.Roots.{Root}
 use Rattle.settling.proofs.Bound.{Settled}
-use Rattle.circuits.proofs.Values.{rule-alike}
+use Rattle.circuits.proofs.Values.{rule_alike}
 use Rattle.circuits.proofs.Patterns.{Meets}
 use Rattle.circuits.proofs.Filled.{Within, bit_is, fill_other, fill_rules}
 use Rattle.circuits.proofs.Only.{NoOutput, fill_only}
@@ -70,11 +70,11 @@ filled_bits n st gs given x i =
     subst (λ y. y ≤ 1) (sym e) (bit_low (holds (valued (fill_gates gs given)) (stands st v)))
 
 -- A value 0 or 1 comes back from its truth.
-bit-back : (x : ℕ) → x ≤ 1 → bit (eqb x 1) ≡ x
+bit_back : (x : ℕ) → x ≤ 1 → bit (eqb x 1) ≡ x
 unfolding bit
-bit-back zero h = refl
-bit-back (suc zero) h = refl
-bit-back (suc (suc x)) h = absurd (no h)
+bit_back zero h = refl
+bit_back (suc zero) h = refl
+bit_back (suc (suc x)) h = absurd (no h)
   where
     no : suc (suc x) ≤ 1 → ⊥
     no h = omega arith
@@ -98,8 +98,8 @@ module _ (n : ℕ) (st : List ℕ) (cs : List (List ℕ)) (set : Settled n st cs
   gates_within g i = let v = are_taken.valid g i in (v.low, v.high)
 
   -- Inputs and outputs are roots.
-  output-root : (g : Gate) → Memᴰ g gates → Root st g.output
-  output-root g i =
+  output_root : (g : Gate) → Memᴰ g gates → Root st g.output
+  output_root g i =
       let v = are_taken.valid g i in let (l, j, q) = v.output_of in
       subst (Root st) q (set.good.over v.anchor v.anchored l j).0
 
@@ -125,7 +125,7 @@ module _ (n : ℕ) (st : List ℕ) (cs : List (List ℕ)) (set : Settled n st cs
           high w = omega arith
       go true e false k true q = refl
       go true e false k false q = refl
-      go false e f k true q = let (g, i, w) = gate_of_output gates v q in absurd (eqb-false (stands st v) (2 * v) e (subst (Root st) w (output-root g i)))
+      go false e f k true q = let (g, i, w) = gate_of_output gates v q in absurd (eqb-false (stands st v) (2 * v) e (subst (Root st) w (output_root g i)))
       go false e true k false q = refl
       go false e false k false q = refl
 
@@ -150,15 +150,15 @@ module _ (n : ℕ) (st : List ℕ) (cs : List (List ℕ)) (set : Settled n st cs
 
     pub through_agrees : Agrees through st
     unfolding through
-    through_agrees v = holds-alike through end (stands st v) (on_root (var (stands st v)) (set.good.rooted v))
+    through_agrees v = holds_alike through end (stands st v) (on_root (var (stands st v)) (set.good.rooted v))
 
     alike : (ds : List (List ℕ)) → ((c : List ℕ) → Memᴰ c ds → Memᴰ c cs) → satisfies_all through ds ≡ satisfies_all end ds
     alike ds sub = alikes_hold through end ds (λ c i l k. on_root (var l) (set.good.over c (sub c i) l k).0)
 
     -- The settled table holds exactly where the residue does.
-    pub filled-holds : (satisfies_all through cs ≡ true) ↔ (satisfies_all through (residue gates cs) ≡ true)
+    pub filled_holds : (satisfies_all through cs ≡ true) ↔ (satisfies_all through (residue gates cs) ≡ true)
     unfolding residue
-    filled-holds =
+    filled_holds =
         let k = split end gates cs (λ g i. (are_taken.valid g i).there) in
         let p = alike cs (λ c i. i) in let q = alike (residue gates cs) (λ c i. (keep_in _ cs c i).0) in
         ((λ h. q ∙ (k.0 (sym p ∙ h)).0), (λ h. p ∙ k.1 (sym q ∙ h, λ g i. ((are_taken.valid g i).meets end).1 (fill_rules n are_taken.order gates_within given long g i))))
@@ -174,7 +174,7 @@ module _ (n : ℕ) (st : List ℕ) (cs : List (List ℕ)) (set : Settled n st cs
 
       pub through_is : (v : ℕ) → v ≤ n → through v ≡ a v
       unfolding through
-      through_is v h = holds-alike end a (stands st v) (root_value (var (stands st v)) (set.good.rooted v) (set.good.within v h)) ∙ agrees v
+      through_is v h = holds_alike end a (stands st v) (root_value (var (stands st v)) (set.good.rooted v) (set.good.within v h)) ∙ agrees v
         where
           root_value : (u : ℕ) → Root st u → u ≤ n → end u ≡ a u
           root_value zero r h = end_zero ∙ sym zero_is
@@ -183,8 +183,8 @@ module _ (n : ℕ) (st : List ℕ) (cs : List (List ℕ)) (set : Settled n st cs
     -- The filled-in values give every gate its value, and free variables the given one.
     pub through_meets : (g : Gate) → Memᴰ g gates → Meets through g
     through_meets g i =
-        on_root g.output (output-root g i) ∙ fill_rules n are_taken.order gates_within given long g i
-        ∙ rule-alike end through g.kind g.inputs (λ x j. sym (on_root (var x) (input_live g i x j).0))
+        on_root g.output (output_root g i) ∙ fill_rules n are_taken.order gates_within given long g i
+        ∙ rule_alike end through g.kind g.inputs (λ x j. sym (on_root (var x) (input_live g i x j).0))
 
     pub through_free : (v : ℕ) → free st gates v ≡ true → through v ≡ valued given v
     unfolding free root
@@ -203,8 +203,8 @@ module _ (n : ℕ) (st : List ℕ) (cs : List (List ℕ)) (set : Settled n st cs
         let e : 1 + v ≡ suc v = omega arith in
         ap (λ t. eqb t 1) (get_or-range (λ v. bit (holds end (stands st v))) 1 n v 0 (omega arith) ∙ ap (λ u. bit (holds end (stands st u))) e) ∙ bit_is (holds end (stands st (suc v)))
 
-    pub filled-alike : (ds : List (List ℕ)) → Inside n ds → satisfies_all (valued (filled n st gates given)) ds ≡ satisfies_all through ds
-    filled-alike ds inside = alikes_hold (valued (filled n st gates given)) through ds (λ c i l k. let (lo, hi) = inside c i l k in filled_value (var l) lo hi)
+    pub filled_alike : (ds : List (List ℕ)) → Inside n ds → satisfies_all (valued (filled n st gates given)) ds ≡ satisfies_all through ds
+    filled_alike ds inside = alikes_hold (valued (filled n st gates given)) through ds (λ c i l k. let (lo, hi) = inside c i l k in filled_value (var l) lo hi)
 
     -- A row of n values that has the values of the filled-in row is it.
     pub filled_row : (values : List ℕ) → length values ≡ n → ((v : ℕ) → Memᴰ v values → v ≤ 1) → ((v : ℕ) → 1 ≤ v → v ≤ n → through v ≡ valued values v) → filled n st gates given ≡ values
@@ -214,9 +214,9 @@ module _ (n : ℕ) (st : List ℕ) (cs : List (List ℕ)) (set : Settled n st cs
         (λ i h. let k : i < n = rw (length-map (range 1 n) (λ v. bit (holds end (stands st v))) ∙ range_size 1 n) at h in
         let e : 1 + i ≡ suc i = omega arith in
         get_or-range (λ v. bit (holds end (stands st v))) 1 n i 0 k ∙ ap (λ u. bit (holds end (stands st u))) e ∙ ap bit (same (suc i) (omega arith) (omega arith))
-        ∙ bit-back (get_or values i 0) (bits (get_or values i 0) (get_or-mem values i 0 (omega arith))))
+        ∙ bit_back (get_or values i 0) (bits (get_or values i 0) (get_or-mem values i 0 (omega arith))))
 
     -- Asking gives the filled-in value.
     pub asked_value : (v : ℕ) → v ≤ n → asked st gates given v ≡ through v
     unfolding asked through
-    asked_value v h = holds-alike (ask_root (length gates) gates (valued given)) end (stands st v) (asked_is n are_taken.order gates_within given long (var (stands st v)))
+    asked_value v h = holds_alike (ask_root (length gates) gates (valued given)) end (stands st v) (asked_is n are_taken.order gates_within given long (var (stands st v)))

@@ -154,9 +154,9 @@ module _ (c : List ℕ) (o : ℕ) (proper : Proper c) (i : Memᴰ o c) where
   anchor_again =
       ap (insert o) (sym (map_same (λ x. x) (λ x. refl) (others o c))) ∙ back_in proper.rises (λ x. x) (λ x y j k l. l) o i ∙ map_same (λ x. x) (λ x. refl) c
 
-  pub and-written : written_out (and_form c o) ≡ (and_form c o).pattern
+  pub and_written : written_out (and_form c o) ≡ (and_form c o).pattern
   unfolding written_out output_literal anchor_rest and_form and_kind and_inputs
-  and-written = go (neg o) refl
+  and_written = go (neg o) refl
     where
       xs : List ℕ
       xs = others o c
@@ -186,9 +186,9 @@ module _ (c : List ℕ) (o : ℕ) (proper : Proper c) (i : Memᴰ o c) where
       ne : (var x ≡ var y → ⊥) → var x ≤ var y → var x < var y
       ne f g = omega arith
 
-  pub parity-written : written_out (parity c o) ≡ (parity c o).pattern
+  pub parity_written : written_out (parity c o) ≡ (parity c o).pattern
   unfolding written_out output_literal anchor_rest parity parity_kind group
-  parity-written = go (odd c)
+  parity_written = go (odd c)
     where
       xs : List ℕ
       xs = others o c

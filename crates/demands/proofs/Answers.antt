@@ -22,7 +22,7 @@ use Rattle.rules.specs.declared.Booked.{Booked}
 use Rattle.rules.specs.declared.Built.{Built}
 use Rattle.rules.specs.declared.Built.TheVariants as built
 use Rattle.demands.specs.Answers.{AcceptedSettles, FourIsContradiction, RefusalKeeps}
-use Rattle.demands.proofs.Verdicts.{never, same_place, all_accept, refuse-accepts, refuse-number}
+use Rattle.demands.proofs.Verdicts.{never, same_place, all_accept, refuse_accepts, refuse_number}
 
 -- What an answer of a build says of its verdict and its rounds.
 abbrev Says : ℕ → Verdict → Built → Type 0
@@ -43,7 +43,7 @@ module _ (n : ℕ) (t : List ℤ) (b : Book) (work room : ℕ) where
 
   held_range : held_bad n b ≡ Accepted → every (λ x. not (out_of_range n x)) (in_force b) ≡ true
   unfolding held_bad
-  held_range e = every-not (out_of_range n) (in_force b) ∙ ap not (refuse-accepts _ 5 0 e)
+  held_range e = every-not (out_of_range n) (in_force b) ∙ ap not (refuse_accepts _ 5 0 e)
 
   no_clash : contradiction (outcome_of n t b) ≡ Accepted → (st : List ℕ) × (cs : List (List ℕ)) × (outcome_of n t b ≡ settled (rounds_in (outcome_of n t b)) st cs)
   unfolding contradiction rounds_in
@@ -75,7 +75,7 @@ past Accepted vs number place k e = (refl, e)
 past (Refused c p) vs number place k e = absurd (k e)
 
 other : (b : Bool) (c p number place : ℕ) → (c ≡ number → ⊥) → refuse b c p ≡ Refused number place → ⊥
-other b c p number place k e = k (refuse-number b c p number place e)
+other b c p number place k e = k (refuse_number b c p number place e)
 
 no_table : (n : ℕ) (t : List ℤ) (place : ℕ) → checked n t ≡ Refused 4 place → ⊥
 no_table n t place e = ⊎_elim (λ (q : 4 ≡ 2). omega (arith, q)) (λ (q : 4 ≡ 3). omega (arith, q)) (refused_number n t 4 place e)

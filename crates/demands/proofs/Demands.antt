@@ -30,7 +30,7 @@ use Rattle.circuits.proofs.Patterns.{Meets}
 use Rattle.circuits.proofs.Levels.{level_is, level_rises, levels_low}
 use Rattle.circuits.proofs.Shared.{shared_once, give_back, residue_apart}
 use Rattle.circuits.proofs.Taken.{Taken}
-use Rattle.circuits.proofs.Whole.{settled_inside, are_taken, gates_within, one_part, through, through_zero, through_agrees, through_meets, through_free, filled-holds, through_is, filled_long, filled_bits, filled_value, filled-alike, filled_row, asked_value}
+use Rattle.circuits.proofs.Whole.{settled_inside, are_taken, gates_within, one_part, through, through_zero, through_agrees, through_meets, through_free, filled_holds, through_is, filled_long, filled_bits, filled_value, filled_alike, filled_row, asked_value}
 use Rattle.demands.specs.Evening.{Settles}
 use Rattle.demands.specs.Demands.{agrees, SettlingExact, RoundsBounded, RefusalBounded, LinksToRoots, OnePart, LevelsRise, NoneShared, PatternSays, GiveBack, FilledSatisfies, OwnFilling, OthersIgnored, NonePossible, AskedIsFilled}
 use Rattle.demands.proofs.Settled.{lent_inside, impossible_ends, impossible_means, settled_ends, settled_means}
@@ -163,16 +163,16 @@ module _ (n : ℕ) (t pins : List ℤ) (r : ℕ) (st : List ℕ) (cs : List (Lis
 
   plan_exact : satisfies_all plan (pinned t pins) ≡ satisfies_all plan (residue (taken_by (allowed n) n cs) cs)
   plan_exact =
-      let f = filled-holds n st cs k (allowed n) (strict n) given long in
+      let f = filled_holds n st cs k (allowed n) (strict n) given long in
       let m = settled_means n t pins s.lent r st cs s.comes plan (through_zero n st cs k (allowed n) (strict n) given long) in
       agree _ _ (λ e. f.0 (m.0 e).0) (λ e. m.1 (f.1 e, through_agrees n st cs k (allowed n) (strict n) given long))
 
   alike_to : (ds : List (List ℕ)) → Inside n ds → satisfies_all (valued (filled n st (taken_by (allowed n) n cs) given)) ds ≡ satisfies_all plan ds
-  alike_to = filled-alike n st cs k (allowed n) (strict n) given long
+  alike_to = filled_alike n st cs k (allowed n) (strict n) given long
 
-pub filled-satisfies : FilledSatisfies
+pub filled_satisfies : FilledSatisfies
 unfolding taken
-filled-satisfies n t pins r st cs s given long =
+filled_satisfies n t pins r st cs s given long =
     alike_to n t pins r st cs s given long (pinned t pins) (lent_inside n t pins s.lent)
     ∙ plan_exact n t pins r st cs s given long
     ∙ sym (alike_to n t pins r st cs s given long _ (residue_inside n t pins r st cs s given long))
@@ -189,9 +189,9 @@ pub own_filling : OwnFilling
 unfolding taken
 own_filling n t pins r st cs s plan size bits e given long same =
     let k = set n t pins r st cs s in
-    let (holds-settled, agreed) = (settled_means n t pins s.lent r st cs s.comes (valued plan) (zero_value plan)).0 e in
+    let (holds_settled, agreed) = (settled_means n t pins s.lent r st cs s.comes (valued plan) (zero_value plan)).0 e in
     filled_row n st cs k (allowed n) (strict n) given long plan size bits
-    (λ v lo hi. through_is n st cs k (allowed n) (strict n) given long (valued plan) (zero_value plan) agreed (all_meet n st cs k (valued plan) holds-settled) same v hi)
+    (λ v lo hi. through_is n st cs k (allowed n) (strict n) given long (valued plan) (zero_value plan) agreed (all_meet n st cs k (valued plan) holds_settled) same v hi)
 
 pub none_possible : NonePossible
 none_possible n t pins r h e values = is_false _ (impossible_means n t pins h r e (valued values) (zero_value values))

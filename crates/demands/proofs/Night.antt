@@ -19,7 +19,7 @@ use Rattle.rules.specs.Calls.{refuse, book_long, held_bad, outcome_of, build_ver
 use Rattle.rules.specs.declared.Book.{Book}
 use Rattle.rules.specs.declared.Booked.{Booked}
 use Rattle.demands.specs.Night.{Move, put, back, answer, stacked, Desk, opening, move, after, StackHeld, StackDecides, TakeBackUndoes}
-use Rattle.demands.proofs.Verdicts.{all_accept, refuse-accepts}
+use Rattle.demands.proofs.Verdicts.{all_accept, refuse_accepts}
 
 -- The invariant of a night.
 record Held (d : Desk) : Type 0 where
@@ -57,7 +57,7 @@ module _ (d : Desk) (h : Held d) where
   room : (n : ℕ) (t : List ℤ) (work : ℕ) (x : ℤ) → pin_verdict n t b work x ≡ Accepted → b.held < 64
   unfolding pin_verdict
   room n t work x e =
-      leb-false 64 b.held (refuse-accepts (leb 64 b.held) 6 64
+      leb-false 64 b.held (refuse_accepts (leb 64 b.held) 6 64
       (all_accept _ e (refuse (leb 64 b.held) 6 64) (Memᴰ.tail (Memᴰ.tail (Memᴰ.tail (Memᴰ.tail (Memᴰ.tail (Memᴰ.head refl))))))))
 
   put_held : (n : ℕ) (t : List ℤ) (work : ℕ) (x : ℤ) → Held (move d (put n t work x))
@@ -97,9 +97,9 @@ stack_held ms = (night_held ms).same
 
 -- A build looks at the pins in force only, where the book's length is in order.
 module _ (b c : Book) (same : in_force b ≡ in_force c) (few : b.held ≤ 64) (few' : c.held ≤ 64) (n : ℕ) (t : List ℤ) (work : ℕ) where
-  outcome-same : outcome_of n t b ≡ outcome_of n t c
+  outcome_same : outcome_of n t b ≡ outcome_of n t c
   unfolding outcome_of
-  outcome-same = rw same
+  outcome_same = rw same
 
   long_same : book_long b ≡ book_long c
   unfolding book_long
@@ -109,23 +109,23 @@ module _ (b c : Book) (same : in_force b ≡ in_force c) (few : b.held ≤ 64) (
   unfolding held_bad
   bad_same = rw same
 
-  verdict-same : (room : ℕ) → build_verdict n t b work room ≡ build_verdict n t c work room
+  verdict_same : (room : ℕ) → build_verdict n t b work room ≡ build_verdict n t c work room
   unfolding build_verdict
-  verdict-same room = rw (outcome-same, long_same, bad_same)
+  verdict_same room = rw (outcome_same, long_same, bad_same)
 
-  pub build-same : (room : ℕ) → build n t b work room ≡ build n t c work room
+  pub build_same : (room : ℕ) → build n t b work room ≡ build n t c work room
   unfolding build
-  build-same room = rw (verdict-same room, outcome-same)
+  build_same room = rw (verdict_same room, outcome_same)
 
-  pub listing-same : (buffer : List ℕ) → build_listing n t b work buffer ≡ build_listing n t c work buffer
+  pub listing_same : (buffer : List ℕ) → build_listing n t b work buffer ≡ build_listing n t c work buffer
   unfolding build_listing
-  listing-same buffer = rw (verdict-same (length buffer), outcome-same)
+  listing_same buffer = rw (verdict_same (length buffer), outcome_same)
 
 pub stack_decides : StackDecides
 stack_decides ms ks e n t work buffer =
     let h = night_held ms in let k = night_held ks in
     let same = h.same ∙ e ∙ sym k.same in
-    (build-same (after ms).book (after ks).book same h.few k.few n t work (length buffer), listing-same (after ms).book (after ks).book same h.few k.few n t work buffer)
+    (build_same (after ms).book (after ks).book same h.few k.few n t work (length buffer), listing_same (after ms).book (after ks).book same h.few k.few n t work buffer)
 
 -- What is laid on top and taken away leaves the stack as it was.
 off_again : (s : List ℤ) (x : ℤ) → take (length (s ++ (x ∷ [])) - 1) (s ++ (x ∷ [])) ≡ s
@@ -136,24 +136,24 @@ off_again s x =
     minus : length (s ++ (x ∷ [])) ≡ length s + 1 → length (s ++ (x ∷ [])) - 1 ≡ length s
     minus q = omega arith
 
-back-accepts : (c : Book) → (c.held ≡ 0 → ⊥) → c.held ≤ 64 → (take_back c).verdict ≡ Accepted
+back_accepts : (c : Book) → (c.held ≡ 0 → ⊥) → c.held ≤ 64 → (take_back c).verdict ≡ Accepted
 unfolding take_back
-back-accepts c h k = rw (take_back, ne_eqb c.held 0 h, le-ltb 64 c.held k)
+back_accepts c h k = rw (take_back, ne_eqb c.held 0 h, le-ltb 64 c.held k)
 
 -- One move of each kind, where it is accepted.
-put-stack : (d : Desk) (n : ℕ) (t : List ℤ) (work : ℕ) (x : ℤ) → (pin n t d.book work x).verdict ≡ Accepted → (move d (put n t work x)).stack ≡ d.stack ++ (x ∷ [])
+put_stack : (d : Desk) (n : ℕ) (t : List ℤ) (work : ℕ) (x : ℤ) → (pin n t d.book work x).verdict ≡ Accepted → (move d (put n t work x)).stack ≡ d.stack ++ (x ∷ [])
 unfolding move answer stacked
-put-stack d n t work x e = rw e
+put_stack d n t work x e = rw e
 
-back-stack : (d : Desk) → (take_back d.book).verdict ≡ Accepted → (move d back).stack ≡ take (length d.stack - 1) d.stack
+back_stack : (d : Desk) → (take_back d.book).verdict ≡ Accepted → (move d back).stack ≡ take (length d.stack - 1) d.stack
 unfolding move answer stacked
-back-stack d e = rw e
+back_stack d e = rw e
 
 pub take_back_undoes : TakeBackUndoes
 unfolding after run
 take_back_undoes ms n t work x e =
     ap (λ (d : Desk). d.stack) (run-append move opening ms (put n t work x ∷ back ∷ []))
-    ∙ back-stack d' (back-accepts d'.book (λ z. no (h.count ∙ ap length on) z) h.few) ∙ ap (λ s. take (length s - 1) s) on ∙ off_again d.stack x
+    ∙ back_stack d' (back_accepts d'.book (λ z. no (h.count ∙ ap length on) z) h.few) ∙ ap (λ s. take (length s - 1) s) on ∙ off_again d.stack x
   where
     d : Desk
     d = run move opening ms
@@ -165,7 +165,7 @@ take_back_undoes ms n t work x e =
     h = step_held d (put n t work x) (night_held ms)
 
     on : d'.stack ≡ d.stack ++ (x ∷ [])
-    on = put-stack d n t work x e
+    on = put_stack d n t work x e
 
     no : d'.book.held ≡ length (d.stack ++ (x ∷ [])) → d'.book.held ≡ 0 → ⊥
     no p z = omega (arith, length-append d.stack (x ∷ []))

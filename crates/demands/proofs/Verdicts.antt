@@ -41,12 +41,12 @@ one_refuses [] number place e = never number place (sym e)
 one_refuses (Accepted ∷ vs) number place e = Memᴰ.tail (one_refuses vs number place e)
 one_refuses (Refused c p ∷ vs) number place e = Memᴰ.head (sym e)
 
-pub refuse-accepts : (b : Bool) (number place : ℕ) → refuse b number place ≡ Accepted → b ≡ false
+pub refuse_accepts : (b : Bool) (number place : ℕ) → refuse b number place ≡ Accepted → b ≡ false
 unfolding refuse
-refuse-accepts true number place e = never number place e
-refuse-accepts false number place e = refl
+refuse_accepts true number place e = never number place e
+refuse_accepts false number place e = refl
 
-pub refuse-number : (b : Bool) (c p number place : ℕ) → refuse b c p ≡ Refused number place → c ≡ number
+pub refuse_number : (b : Bool) (c p number place : ℕ) → refuse b c p ≡ Refused number place → c ≡ number
 unfolding refuse number_of
-refuse-number true c p number place e = ap number_of e
-refuse-number false c p number place e = never number place (sym e)
+refuse_number true c p number place e = ap number_of e
+refuse_number false c p number place e = never number place (sym e)

@@ -15,7 +15,7 @@ use Rattle.ways.proofs.Rows.{keep_in}
 use Rattle.ways.proofs.Members.{mem-range, range_size, get_or-mem, get_or-map}
 use Rattle.ways.proofs.Counts.{keep-le, count_less}
 use Rattle.tables.specs.Literal.{var, opp}
-use Rattle.tables.proofs.Literals.{var_pos, var-opp, same-var}
+use Rattle.tables.proofs.Literals.{var_pos, var-opp, same_var}
 use Rattle.tables.proofs.Checked.{Inside}
 use Rattle.rules.specs.Forced.{forced, contradicts}
 use Rattle.rules.specs.Pairs.{pairs, stands, replace, give_way, meet, join, starting, leaders, torn, root}
@@ -34,7 +34,7 @@ module _ (lo hi : ℕ) where
       go : (b : Bool) → eqb l hi ≡ b → (c : Bool) → eqb l (opp hi) ≡ c → var (cond b lo (cond c (opp lo) l)) ≡ var lo
       go true p c q = refl
       go false p true q = var-opp lo
-      go false p false q = absurd (⊎_elim (eqb-false l hi p) (eqb-false l (opp hi) q) (same-var l hi e))
+      go false p false q = absurd (⊎_elim (eqb-false l hi p) (eqb-false l (opp hi) q) (same_var l hi e))
 
   way_same : (k l : ℕ) → var k ≡ var l → var (give_way lo hi k) ≡ var (give_way lo hi l)
   way_same k l e = go (eqb (var l) (var hi)) refl
@@ -52,9 +52,9 @@ module _ (u v : ℕ) (s : List ℕ) (lu : u < length s) (lv : v < length s) wher
   unfolding stands
   map_same f e = ap var (get_or-map f s u (2 * u) (2 * u) lu) ∙ e ∙ ap var (sym (get_or-map f s v (2 * v) (2 * v) lv))
 
-  meet-same : (p q : ℕ) → Same s u v → Same (meet p q s) u v
+  meet_same : (p q : ℕ) → Same s u v → Same (meet p q s) u v
   unfolding meet
-  meet-same p q e = go (eqb (var p) (var q)) (ltb (var p) (var q))
+  meet_same p q e = go (eqb (var p) (var q)) (ltb (var p) (var q))
     where
       go : (b c : Bool) → Same (cond b s (cond c (map (give_way p q) s) (map (give_way q p) s))) u v
       go true c = e
@@ -86,7 +86,7 @@ unfolding run join
 run_joins t c ps lx ly =
     (run_keeps join (λ r. (length r ≡ length t) × Same r u v) ps
     (λ r d i h. let f : length (join r d) ≡ length t = meet_size _ _ r ∙ h.0 in
-    (f, meet-same u v r (rw h.0 lx) (rw h.0 ly) (replace r (get_or d 0 0)) (opp (replace r (get_or d 1 0))) h.1))
+    (f, meet_same u v r (rw h.0 lx) (rw h.0 ly) (replace r (get_or d 0 0)) (opp (replace r (get_or d 1 0))) h.1))
     (join t c) (meet_size _ _ t, meet_joins u v t lx ly (replace t (get_or c 0 0)) (opp (replace t (get_or c 1 0))) (var-replace t (get_or c 0 0)) (var-opp (replace t (get_or c 1 0)) ∙ var-replace t (get_or c 1 0)))).1
   where
     u : ℕ
@@ -197,9 +197,9 @@ module _ (n : ℕ) where
   Leaves st (ended t es) = Settled n t es
   Leaves st (goes_on t es) = Good n t es × (roots n t < roots n st)
 
-  round-leaves : (st : List ℕ) (cs : List (List ℕ)) → Good n st cs → Leaves st (round n st cs)
+  round_leaves : (st : List ℕ) (cs : List (List ℕ)) → Good n st cs → Leaves st (round n st cs)
   unfolding round cleaned paired
-  round-leaves st cs good = go (contradicts n cs) (eqb (length P) 0) refl (some (torn S) P)
+  round_leaves st cs good = go (contradicts n cs) (eqb (length P) 0) refl (some (torn S) P)
     where
       D : List (List ℕ)
       D = ds n st cs good
@@ -238,7 +238,7 @@ module _ (n : ℕ) where
     where
       no : roots n st < 0 → ⊥
       no h = omega arith
-  rounds_end (suc f) r st cs good h = go (round n st cs) (round-leaves st cs good) (rounds_end f (r + 1))
+  rounds_end (suc f) r st cs good h = go (round n st cs) (round_leaves st cs good) (rounds_end f (r + 1))
     where
       later : (o : Outcome) → Ends (r + 1) f o → Ends r (suc f) o
       later (impossible k) x = (omega arith, omega arith)

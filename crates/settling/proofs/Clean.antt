@@ -10,7 +10,7 @@ use borrow.Author.Tests.{eqb-true, not-true}
 use Rattle.ways.specs.Ways.{some, every, among}
 use Rattle.ways.proofs.Bools.{or_cases, or_swap, or_twice, and_idle}
 use Rattle.ways.proofs.Runs.{run_keeps, run-every, run-some}
-use Rattle.ways.proofs.Rows.{every_all, every_append, some_in, in_some, none_of}
+use Rattle.ways.proofs.Rows.{every_all, every-append, some_in, in_some, none_of}
 use Rattle.ways.proofs.Members.{among-mem}
 use Rattle.tables.specs.Literal.{opp, holds}
 use Rattle.tables.specs.Clause.{void, satisfies, satisfies_all}
@@ -55,7 +55,7 @@ module _ (a : ℕ → Bool) where
       where
         go : (b : Bool) → among c out ≡ b → satisfies_all a (cond b out (out ++ (c ∷ []))) ≡ (satisfies_all a out && satisfies a c)
         go true e = sym (and_idle (satisfies_all a out) (satisfies a c) (λ h. every_all (satisfies a) out h c (among-mem c out e)))
-        go false e = every_append (satisfies a) out (c ∷ []) ∙ ap (λ t. every (satisfies a) out && t) (and-true (satisfies a c))
+        go false e = every-append (satisfies a) out (c ∷ []) ∙ ap (λ t. every (satisfies a) out && t) (and-true (satisfies a c))
 
     step_sat : (out : List (List ℕ)) (c : List ℕ) → satisfies_all a (clean_step m out c) ≡ (satisfies_all a out && satisfies a c)
     unfolding clean_step

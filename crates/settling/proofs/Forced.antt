@@ -62,9 +62,9 @@ module _ (a : ℕ → Bool) where
       go true = s
       go false = run_keeps (force_at c) Sound c (λ k l i. at_sound c k l h) m s
 
-  pub forced-holds : (n : ℕ) (cs : List (List ℕ)) → satisfies_all a cs ≡ true → (l : ℕ) → marked (forced n cs) l ≡ true → holds a l ≡ true
+  pub forced_holds : (n : ℕ) (cs : List (List ℕ)) → satisfies_all a cs ≡ true → (l : ℕ) → marked (forced n cs) l ≡ true → holds a l ≡ true
   unfolding satisfies_all forced pass
-  forced-holds n cs h =
+  forced_holds n cs h =
       iter_keeps (pass cs) Sound (λ m. run_keeps force_in Sound cs (λ k c i. in_sound k c (every_all (satisfies a) cs h c i)) m)
       (2 * n + 2) (replicate (2 * n + 2) 0) (λ l e. clash_of (sym e ∙ none_marked (2 * n + 2) l))
 

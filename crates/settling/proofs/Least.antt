@@ -88,9 +88,9 @@ module _ (n : ℕ) (cs : List (List ℕ)) where
     abbrev Only : List ℕ → Type 0
     Only m = (l : ℕ) → marked m l ≡ true → In l
 
-    pub forced-least : (l : ℕ) → marked (forced n cs) l ≡ true → In l
+    pub forced_least : (l : ℕ) → marked (forced n cs) l ≡ true → In l
     unfolding forced pass force_in force_at forces
-    forced-least =
+    forced_least =
         iter_keeps (pass cs) Only (λ m. run_keeps force_in Only cs (λ k c i s. in_only k c i s (void c) refl) m)
         (2 * n + 2) (replicate (2 * n + 2) 0) (λ l e. clash_of (sym e ∙ none_marked (2 * n + 2) l))
       where

@@ -14,7 +14,7 @@ use Rattle.ways.proofs.Rows.{every_all, keep_in}
 use Rattle.ways.proofs.Members.{among-mem}
 use Rattle.tables.specs.Literal.{var, neg, opp, holds}
 use Rattle.tables.specs.Clause.{satisfies, satisfies_all}
-use Rattle.tables.proofs.Literals.{holds-opp, holds_by, holds_pos, holds-neg, holds-zero, holds_one}
+use Rattle.tables.proofs.Literals.{holds-opp, holds_by, holds_pos, holds-neg, holds_zero, holds_one}
 use Rattle.rules.specs.Forced.{marked}
 use Rattle.rules.specs.Pairs.{pairs, stands, replace, alone, starting, give_way, meet, join, leaders}
 use Rattle.settling.proofs.Forced.{Sound}
@@ -42,19 +42,19 @@ module _ (a : ℕ → Bool) where
       go false f false g = refl
 
   -- a change of literals that keeps their truth keeps that of every place
-  map-holds : (f : ℕ → ℕ) → ((l : ℕ) → holds a (f l) ≡ holds a l) → (s : List ℕ) (v d : ℕ) → holds a (get_or (map f s) v d) ≡ holds a (get_or s v d)
-  map-holds f h [] v d = refl
-  map-holds f h (x ∷ s) zero d = h x
-  map-holds f h (x ∷ s) (suc v) d = map-holds f h s v d
+  map_holds : (f : ℕ → ℕ) → ((l : ℕ) → holds a (f l) ≡ holds a l) → (s : List ℕ) (v d : ℕ) → holds a (get_or (map f s) v d) ≡ holds a (get_or s v d)
+  map_holds f h [] v d = refl
+  map_holds f h (x ∷ s) zero d = h x
+  map_holds f h (x ∷ s) (suc v) d = map_holds f h s v d
 
-  meet-agrees : (p q : ℕ) (s : List ℕ) → holds a p ≡ holds a q → Agrees s → Agrees (meet p q s)
+  meet_agrees : (p q : ℕ) (s : List ℕ) → holds a p ≡ holds a q → Agrees s → Agrees (meet p q s)
   unfolding meet stands
-  meet-agrees p q s e h = go (eqb (var p) (var q)) (ltb (var p) (var q))
+  meet_agrees p q s e h = go (eqb (var p) (var q)) (ltb (var p) (var q))
     where
       go : (b c : Bool) → (v : ℕ) → holds a (get_or (cond b s (cond c (map (give_way p q) s) (map (give_way q p) s))) v (2 * v)) ≡ a v
       go true c v = h v
-      go false true v = map-holds (give_way p q) (λ l. way_holds p q l e) s v (2 * v) ∙ h v
-      go false false v = map-holds (give_way q p) (λ l. way_holds q p l (sym e)) s v (2 * v) ∙ h v
+      go false true v = map_holds (give_way p q) (λ l. way_holds p q l e) s v (2 * v) ∙ h v
+      go false false v = map_holds (give_way q p) (λ l. way_holds q p l (sym e)) s v (2 * v) ∙ h v
 
   -- a pair: its two literals are opposites
   abbrev pub Opposed : List ℕ → Type 0
@@ -83,11 +83,11 @@ module _ (a : ℕ → Bool) where
       let two = eqb (length c) 2 in let there = among (map opp c) ds in
       opposed c (and_left two there e) (every_all (satisfies a) ds h c i) (every_all (satisfies a) ds h (map opp c) (among-mem (map opp c) ds (and_right two there e)))
 
-  join-agrees : (s c : List ℕ) → Opposed c → Agrees s → Agrees (join s c)
+  join_agrees : (s c : List ℕ) → Opposed c → Agrees s → Agrees (join s c)
   unfolding join
-  join-agrees s c e h =
+  join_agrees s c e h =
       let x = get_or c 0 0 in let y = get_or c 1 0 in
-      meet-agrees (replace s x) (opp (replace s y)) s (replace-holds s x (h (var x)) ∙ e ∙ ap not (sym (replace-holds s y (h (var y)))) ∙ sym (holds-opp a (replace s y))) h
+      meet_agrees (replace s x) (opp (replace s y)) s (replace-holds s x (h (var x)) ∙ e ∙ ap not (sym (replace-holds s y (h (var y)))) ∙ sym (holds-opp a (replace s y))) h
 
   module _ (zero_is : a 0 ≡ false) (m : List ℕ) (sound : Sound a m) where
     alone-holds : (v : ℕ) → holds a (alone m v) ≡ a v
@@ -96,7 +96,7 @@ module _ (a : ℕ → Bool) where
       where
         go : (b : Bool) → marked m (2 * v) ≡ b → (c : Bool) → marked m (2 * v + 1) ≡ c → holds a (cond b 1 (cond c 0 (2 * v))) ≡ a v
         go true e c f = holds_one a zero_is ∙ sym (sym (holds_pos a v) ∙ sound (2 * v) e)
-        go false e true f = holds-zero a zero_is ∙ sym (not-true (a v) (sym (holds-neg a v) ∙ sound (2 * v + 1) f))
+        go false e true f = holds_zero a zero_is ∙ sym (not-true (a v) (sym (holds-neg a v) ∙ sound (2 * v + 1) f))
         go false e false f = holds_pos a v
 
     start : (b k v : ℕ) → holds a (get_or (map (alone m) (range b k)) v (2 * (b + v))) ≡ a (b + v)
@@ -107,10 +107,10 @@ module _ (a : ℕ → Bool) where
 
     begin : (n : ℕ) → Agrees (starting n m)
     unfolding stands starting
-    begin n zero = holds-zero a zero_is ∙ sym zero_is
+    begin n zero = holds_zero a zero_is ∙ sym zero_is
     begin n (suc v) = let e : 1 + v ≡ suc v = omega arith in rw e at (start 1 n v)
 
     pub leaders_agree : (n : ℕ) (ds : List (List ℕ)) → satisfies_all a ds ≡ true → Agrees (leaders n m (pairs ds))
     unfolding leaders
     leaders_agree n ds h =
-        run_keeps join Agrees (pairs ds) (λ s c i. join-agrees s c (pairs_opposed ds h c i)) (starting n m) (begin n)
+        run_keeps join Agrees (pairs ds) (λ s c i. join_agrees s c (pairs_opposed ds h c i)) (starting n m) (begin n)

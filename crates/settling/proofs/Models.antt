@@ -19,7 +19,7 @@ use Rattle.rules.specs.Forced.{marked, clash, empty, contradicts}
 use Rattle.rules.specs.Pairs.{pairs, stands, replace, alone, starting, torn}
 use Rattle.rules.specs.Rounds.{Round, stuck, ended, goes_on, paired, cleaned, round, Outcome, impossible, settled, after, rounds, outcome}
 use Rattle.settling.proofs.Links.{Agrees}
-use Rattle.settling.proofs.Round.{Good, m, ds, s, st', sound, clean_is, new_agrees, back_sound, back-agrees, back_to, no_empty, no_clash, no_torn, last_good, next_good}
+use Rattle.settling.proofs.Round.{Good, m, ds, s, st', sound, clean_is, new_agrees, back_sound, back_agrees, back_to, no_empty, no_clash, no_torn, last_good, next_good}
 
 -- the models of clauses together with what the variables stand for
 abbrev pub Models : (ℕ → Bool) → List ℕ → List (List ℕ) → Type 0
@@ -53,7 +53,7 @@ module _ (a : ℕ → Bool) (zero_is : a 0 ≡ false) (n : ℕ) where
       to_last : clash n M ≡ false → Models a st cs ↔ Models a T D
       to_last calm = (
         λ h. (clean_is n st cs good a zero_is (sound n st cs good a zero_is h.0) ∙ h.0, new_agrees n st cs good a zero_is h.0 h.1),
-        λ h. (sym (clean_is n st cs good a zero_is (back_sound n st cs good a zero_is calm h.1)) ∙ h.0, back-agrees n st cs good a zero_is calm h.1),
+        λ h. (sym (clean_is n st cs good a zero_is (back_sound n st cs good a zero_is calm h.1)) ∙ h.0, back_agrees n st cs good a zero_is calm h.1),
       )
 
       to_next : clash n M ≡ false → Models a T D ↔ Models a T (map (map (replace S)) D)

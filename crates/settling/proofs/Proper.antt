@@ -15,7 +15,7 @@ use Rattle.ways.proofs.Rows.{in_some}
 use Rattle.ways.proofs.Members.{mem-has}
 use Rattle.tables.specs.Literal.{var, opp}
 use Rattle.tables.specs.Clause.{void}
-use Rattle.tables.proofs.Literals.{same-var}
+use Rattle.tables.proofs.Literals.{same_var}
 use Rattle.rules.specs.Forced.{marked}
 use Rattle.rules.specs.Clean.{insert, tidy_step, tidy, add, clean_step, clean}
 use Rattle.settling.proofs.Clean.{insert_in}
@@ -76,7 +76,7 @@ tidy_proper c d v t = record { rises = t.rises; single = λ x y i j e. one x y (
   where
     one : (x y : ℕ) → Memᴰ x c → Memᴰ y c → var x ≡ var y → (b : Bool) → eqb x y ≡ b → x ≡ y
     one x y i j e true q = eqb-true x y q
-    one x y i j e false q = ⊎_elim (λ r. r) (λ r. absurd (never_both (in_some _ c y j (mem-has (opp y) c (Memᴰ.cast (sym r) i))) v)) (same-var x y e)
+    one x y i j e false q = ⊎_elim (λ r. r) (λ r. absurd (never_both (in_some _ c y j (mem-has (opp y) c (Memᴰ.cast (sym r) i))) v)) (same_var x y e)
 
 pub clean_proper : (m : List ℕ) (cs : List (List ℕ)) (c : List ℕ) → Memᴰ c (clean m cs) → Proper c
 unfolding clean clean_step add

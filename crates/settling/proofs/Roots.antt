@@ -11,7 +11,7 @@ use borrow.Author.Tests.{eqb-false, ne_eqb, ltb-true, ltb-false}
 use Rattle.ways.specs.Ways.{range}
 use Rattle.ways.proofs.Members.{get_or-range, get_or_past}
 use Rattle.tables.specs.Literal.{var, neg, opp}
-use Rattle.tables.proofs.Literals.{var_pos, neg_pos, var-opp, low_var, same-var}
+use Rattle.tables.proofs.Literals.{var_pos, neg_pos, var-opp, low_var, same_var}
 use Rattle.rules.specs.Forced.{marked}
 use Rattle.rules.specs.Pairs.{stands, replace, alone, starting, give_way, meet, join, root}
 
@@ -58,7 +58,7 @@ module _ (lo hi : ℕ) where
           → (var (cond b lo (cond c (opp lo) l)) ≡ var lo) ⊎ ((cond b lo (cond c (opp lo) l) ≡ l) × (var l ≡ var hi → ⊥))
       go true e c f = inl refl
       go false e true f = inl (var-opp lo)
-      go false e false f = inr (refl, λ q. ⊎_elim (eqb-false l hi e) (eqb-false l (opp hi) f) (same-var l hi q))
+      go false e false f = inr (refl, λ q. ⊎_elim (eqb-false l hi e) (eqb-false l (opp hi) f) (same_var l hi q))
 
   module _ (s : List ℕ) (less : var lo < var hi) (root : Root s (var lo)) where
     stays : (u : ℕ) → (u ≡ var hi → ⊥) → Root s u → Root (map (give_way lo hi) s) u
@@ -156,9 +156,9 @@ module _ (n : ℕ) (m : List ℕ) where
       go true h = let e : 1 + v ≡ suc v = omega arith in rw (get_or-range (alone m) 1 n v (2 * suc v) (ltb-true v n h), e) (one (suc v))
       go false h = inr (get_or_past (alone m) 1 n v (2 * suc v) (ltb-false v n h))
 
-  pub zero-root : Root (starting n m) 0
+  pub zero_root : Root (starting n m) 0
   unfolding starting stands
-  zero-root = refl
+  zero_root = refl
 
 module _ (n : ℕ) (m : List ℕ) where
   pub starting_inv : (R : ℕ → Type 0) → ((v : ℕ) → R v → stands (starting n m) v < 2 → R 0) → Inv R (starting n m) (starting n m)
@@ -171,4 +171,4 @@ module _ (n : ℕ) (m : List ℕ) where
       }
     where
       where_root : (v : ℕ) → (u : ℕ) × (var (stands (starting n m) v) ≡ u) × Root (starting n m) u
-      where_root v = ⊎_elim (λ k. (0, low_var (stands (starting n m) v) k, zero-root n m)) (λ e. (v, ap var e ∙ var_pos v, e)) (starting_cases n m v)
+      where_root v = ⊎_elim (λ k. (0, low_var (stands (starting n m) v) k, zero_root n m)) (λ e. (v, ap var e ∙ var_pos v, e)) (starting_cases n m v)

@@ -16,15 +16,15 @@ use Rattle.ways.proofs.Rows.{every_all, some_in, none_of, keep_in}
 use Rattle.ways.proofs.Members.{map-mem, mem-range, range_size, get_or-mem, get_or-map}
 use Rattle.tables.specs.Literal.{var, opp, holds}
 use Rattle.tables.specs.Clause.{satisfies, satisfies_all}
-use Rattle.tables.proofs.Literals.{two_forms, holds_pos, holds-neg, holds-zero, holds_one}
+use Rattle.tables.proofs.Literals.{two_forms, holds_pos, holds-neg, holds_zero, holds_one}
 use Rattle.tables.proofs.Clauses.{All}
 use Rattle.rules.specs.Forced.{marked, forced, clash, empty}
 use Rattle.rules.specs.Clean.{clean}
 use Rattle.rules.specs.Pairs.{pairs, stands, replace, join, alone, starting, leaders, torn}
-use Rattle.settling.proofs.Forced.{Sound, forced-holds, marked_all}
+use Rattle.settling.proofs.Forced.{Sound, forced_holds, marked_all}
 use Rattle.settling.proofs.Clean.{Kept, clean_all, clean_sat}
 use Rattle.settling.proofs.Links.{Agrees, replace-holds, pairs_opposed, leaders_agree}
-use Rattle.settling.proofs.Roots.{Root, Rooted, replace_pos, var-replace, Inv, join_inv, starting_in, starting_inv, zero-root}
+use Rattle.settling.proofs.Roots.{Root, Rooted, replace_pos, var-replace, Inv, join_inv, starting_in, starting_inv, zero_root}
 
 -- composition, place by place
 compose : (s st : List ℕ) → length s ≡ length st → (v : ℕ) → stands (map (replace s) st) v ≡ replace s (stands st v)
@@ -137,7 +137,7 @@ module _ (n : ℕ) (st : List ℕ) (cs : List (List ℕ)) (good : Good n st cs) 
       subst (λ v. Root st' v × (1 ≤ v) × (v ≤ n)) (sym q) (new_root u r.here (live_inv.rooted (var x)), r.low, r.high)
 
   zero_stays : Root s 0
-  zero_stays = roots_inv.const 0 (rw (zero-root n m) (omega arith)) ∙ zero-root n m
+  zero_stays = roots_inv.const 0 (rw (zero_root n m) (omega arith)) ∙ zero_root n m
 
   pub next_good : Good n st' (map (map (replace s)) ds)
   next_good = record { size = length-map st (replace s) ∙ good.size; none = new_root 0 good.none zero_stays; rooted = new_rooted; within = new_within; over = new_over }
@@ -161,7 +161,7 @@ module _ (n : ℕ) (st : List ℕ) (cs : List (List ℕ)) (good : Good n st cs) 
   -- an assignment; variable 0 has the value 0
   module _ (a : ℕ → Bool) (zero_is : a 0 ≡ false) where
     pub sound : satisfies_all a cs ≡ true → Sound a m
-    sound = forced-holds a n cs
+    sound = forced_holds a n cs
 
     pub clean_is : Sound a m → satisfies_all a ds ≡ satisfies_all a cs
     clean_is h = clean_sat a m h cs
@@ -200,11 +200,11 @@ module _ (n : ℕ) (st : List ℕ) (cs : List (List ℕ)) (good : Good n st cs) 
           ap (holds a) q.0 ∙ holds_pos a (var l) ∙ sym (fixed_one (var l) r lo hi 1 (omega arith) (rw f)) ∙ holds_one a zero_is)
           (λ q. let f : marked m (2 * var l + 1) ≡ true = ap (marked m) (sym q.0) ∙ e in
           let z : marked m (2 * var l) ≡ false = one_way (var l) lo hi f in
-          ap (holds a) q.0 ∙ holds-neg a (var l) ∙ ap not (sym (fixed_one (var l) r lo hi 0 (omega arith) (rw (z, f))) ∙ holds-zero a zero_is))
+          ap (holds a) q.0 ∙ holds-neg a (var l) ∙ ap not (sym (fixed_one (var l) r lo hi 0 (omega arith) (rw (z, f))) ∙ holds_zero a zero_is))
           (two_forms l)
 
-      pub back-agrees : Agrees a st
-      back-agrees v = sym (replace-holds a s (stands st v) (star g (var (stands st v)) (good.rooted v))) ∙ ap (holds a) (sym (new_at v)) ∙ g v
+      pub back_agrees : Agrees a st
+      back_agrees v = sym (replace-holds a s (stands st v) (star g (var (stands st v)) (good.rooted v))) ∙ ap (holds a) (sym (new_at v)) ∙ g v
 
       pub back_to : All (λ l. holds a (replace s l) ≡ holds a l) ds
       back_to c i l k = replace-holds a s l (star g (var l) (ds_live c i l k).here)

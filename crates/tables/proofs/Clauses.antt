@@ -6,11 +6,11 @@ use mathlib.Core.List.{List, [], ◌∷◌, ◌++◌, map, Memᴰ}
 use lib.IntN.{ℤ}
 use borrow.Author.Tests.{eq-eqb, ne_eqb}
 use Rattle.ways.specs.Ways.{some}
-use Rattle.ways.proofs.Rows.{some_in, in_some, every_append, some_alike, every-alike, some-map, every-map}
+use Rattle.ways.proofs.Rows.{some_in, in_some, every-append, some_alike, every_alike, some-map, every-map}
 use Rattle.ways.proofs.Members.{has-mem}
 use Rattle.tables.specs.Literal.{literal, var, opp, holds}
 use Rattle.tables.specs.Clause.{clauses_from, void, satisfies, satisfies_all}
-use Rattle.tables.proofs.Literals.{holds-opp, holds-alike}
+use Rattle.tables.proofs.Literals.{holds-opp, holds_alike}
 
 -- A zero ends the open clause, any other entry goes on with it.
 pub clause_ends : (c : List ℕ) (z : ℤ) (zs : List ℤ) → literal z ≡ 0 → clauses_from c (z ∷ zs) ≡ c ∷ clauses_from [] zs
@@ -26,9 +26,9 @@ abbrev pub All : (ℕ → Type 0) → List (List ℕ) → Type 0
 All P cs = (c : List ℕ) → Memᴰ c cs → (l : ℕ) → Memᴰ l c → P l
 
 module _ (a : ℕ → Bool) where
-  pub all-append : (cs ds : List (List ℕ)) → satisfies_all a (cs ++ ds) ≡ (satisfies_all a cs && satisfies_all a ds)
+  pub all_append : (cs ds : List (List ℕ)) → satisfies_all a (cs ++ ds) ≡ (satisfies_all a cs && satisfies_all a ds)
   unfolding satisfies_all
-  all-append cs ds = every_append (satisfies a) cs ds
+  all_append cs ds = every-append (satisfies a) cs ds
 
   -- A void clause is satisfied by every assignment.
   pub void-holds : (c : List ℕ) → void c ≡ true → satisfies a c ≡ true
@@ -41,20 +41,20 @@ module _ (a : ℕ → Bool) where
 
   -- A change of literals that keeps the truth of those in the clauses keeps that of the clauses.
   module _ (f : ℕ → ℕ) where
-    pub map-holds : (c : List ℕ) → ((l : ℕ) → Memᴰ l c → holds a (f l) ≡ holds a l) → satisfies a (map f c) ≡ satisfies a c
+    pub map_holds : (c : List ℕ) → ((l : ℕ) → Memᴰ l c → holds a (f l) ≡ holds a l) → satisfies a (map f c) ≡ satisfies a c
     unfolding satisfies
-    map-holds c h = some-map f (holds a) c ∙ some_alike (λ l. holds a (f l)) (holds a) c h
+    map_holds c h = some-map f (holds a) c ∙ some_alike (λ l. holds a (f l)) (holds a) c h
 
     pub maps_hold : (cs : List (List ℕ)) → All (λ l. holds a (f l) ≡ holds a l) cs → satisfies_all a (map (map f) cs) ≡ satisfies_all a cs
     unfolding satisfies_all
-    maps_hold cs h = every-map (map f) (satisfies a) cs ∙ every-alike (λ c. satisfies a (map f c)) (satisfies a) cs (λ c i. map-holds c (h c i))
+    maps_hold cs h = every-map (map f) (satisfies a) cs ∙ every_alike (λ c. satisfies a (map f c)) (satisfies a) cs (λ c i. map_holds c (h c i))
 
 -- Two assignments that agree on the variables of some clauses satisfy the same of them.
 module _ (a b : ℕ → Bool) where
-  pub alike-holds : (c : List ℕ) → ((l : ℕ) → Memᴰ l c → a (var l) ≡ b (var l)) → satisfies a c ≡ satisfies b c
+  pub alike_holds : (c : List ℕ) → ((l : ℕ) → Memᴰ l c → a (var l) ≡ b (var l)) → satisfies a c ≡ satisfies b c
   unfolding satisfies
-  alike-holds c h = some_alike (holds a) (holds b) c (λ l i. holds-alike a b l (h l i))
+  alike_holds c h = some_alike (holds a) (holds b) c (λ l i. holds_alike a b l (h l i))
 
   pub alikes_hold : (cs : List (List ℕ)) → All (λ l. a (var l) ≡ b (var l)) cs → satisfies_all a cs ≡ satisfies_all b cs
   unfolding satisfies_all
-  alikes_hold cs h = every-alike (satisfies a) (satisfies b) cs (λ c i. alike-holds c (h c i))
+  alikes_hold cs h = every_alike (satisfies a) (satisfies b) cs (λ c i. alike_holds c (h c i))

@@ -90,8 +90,8 @@ opp_differs l e = ⊎_elim (λ p. no p.0 p.1) (λ p. no' p.0 p.1) (two_forms l)
     no' p q = omega arith
 
 -- Two literals of one variable are equal or opposite.
-pub same-var : (l k : ℕ) → var l ≡ var k → (l ≡ k) ⊎ (l ≡ opp k)
-same-var l k e =
+pub same_var : (l k : ℕ) → var l ≡ var k → (l ≡ k) ⊎ (l ≡ opp k)
+same_var l k e =
     ⊎_elim
     (λ p. ⊎_elim (λ q. inl (p.0 ∙ ap (λ v. 2 * v) e ∙ sym q.0)) (λ q. inr (p.0 ∙ ap (λ v. 2 * v) e ∙ sym q.1)) (two_forms k))
     (λ p. ⊎_elim (λ q. inr (p.0 ∙ ap (λ v. 2 * v + 1) e ∙ sym q.1)) (λ q. inl (p.0 ∙ ap (λ v. 2 * v + 1) e ∙ sym q.0)) (two_forms k))
@@ -137,17 +137,17 @@ module _ (a : ℕ → Bool) where
   holds_by l = refl
 
   -- The numbers 0 and 1, where variable 0 has the value 0.
-  pub holds-zero : a 0 ≡ false → holds a 0 ≡ false
+  pub holds_zero : a 0 ≡ false → holds a 0 ≡ false
   unfolding holds neg var
-  holds-zero z = z
+  holds_zero z = z
 
   pub holds_one : a 0 ≡ false → holds a 1 ≡ true
   unfolding holds neg var
   holds_one z = rw z
 
-pub holds-alike : (a b : ℕ → Bool) (l : ℕ) → a (var l) ≡ b (var l) → holds a l ≡ holds b l
+pub holds_alike : (a b : ℕ → Bool) (l : ℕ) → a (var l) ≡ b (var l) → holds a l ≡ holds b l
 unfolding holds
-holds-alike a b l e = rw e
+holds_alike a b l e = rw e
 
 -- Entries and the numbers of literals.
 pub entry-literal : (z : ℤ) → entry (literal z) ≡ z
@@ -173,9 +173,9 @@ var-literal (pos v) = var_pos v
 var-literal (negsuc v) = var-neg (suc v)
 
 -- Only the entry 0 has the number 0, and no entry has the number 1.
-pub literal-zero : (z : ℤ) → literal z ≡ 0 → z ≡ pos 0
+pub literal_zero : (z : ℤ) → literal z ≡ 0 → z ≡ pos 0
 unfolding entry neg var
-literal-zero z e = sym (entry-literal z) ∙ ap entry e
+literal_zero z e = sym (entry-literal z) ∙ ap entry e
 
 pub literal_one : (z : ℤ) → literal z ≡ 1 → ⊥
 unfolding literal

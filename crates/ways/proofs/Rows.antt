@@ -83,10 +83,10 @@ module _ {X : Type 0} (p : X → Bool) where
       go true k = Memᴰ.tail k
       go false k = k
 
-  pub every_append : (xs ys : List X) → every p (xs ++ ys) ≡ (every p xs && every p ys)
+  pub every-append : (xs ys : List X) → every p (xs ++ ys) ≡ (every p xs && every p ys)
   unfolding every
-  every_append [] ys = refl
-  every_append (x ∷ xs) ys = go (p x) (every_append xs ys)
+  every-append [] ys = refl
+  every-append (x ∷ xs) ys = go (p x) (every-append xs ys)
     where
       go : (b : Bool) → every p (xs ++ ys) ≡ (every p xs && every p ys) → (b && every p (xs ++ ys)) ≡ (b && every p xs && every p ys)
       go true e = e
@@ -106,20 +106,20 @@ module _ {X : Type 0} (p q : X → Bool) where
   abbrev pub Alike : List X → Type 0
   Alike xs = (x : X) → Memᴰ x xs → p x ≡ q x
 
-  pub every-alike : (xs : List X) → Alike xs → every p xs ≡ every q xs
+  pub every_alike : (xs : List X) → Alike xs → every p xs ≡ every q xs
   unfolding every
-  every-alike [] h = refl
-  every-alike (x ∷ xs) h = rw (h x (Memᴰ.head refl), every-alike xs (λ y i. h y (Memᴰ.tail i)))
+  every_alike [] h = refl
+  every_alike (x ∷ xs) h = rw (h x (Memᴰ.head refl), every_alike xs (λ y i. h y (Memᴰ.tail i)))
 
   pub some_alike : (xs : List X) → Alike xs → some p xs ≡ some q xs
   unfolding some
   some_alike [] h = refl
   some_alike (x ∷ xs) h = rw (h x (Memᴰ.head refl), some_alike xs (λ y i. h y (Memᴰ.tail i)))
 
-  pub oddly-alike : (xs : List X) → Alike xs → oddly p xs ≡ oddly q xs
+  pub oddly_alike : (xs : List X) → Alike xs → oddly p xs ≡ oddly q xs
   unfolding oddly
-  oddly-alike [] h = refl
-  oddly-alike (x ∷ xs) h = rw (h x (Memᴰ.head refl), oddly-alike xs (λ y i. h y (Memᴰ.tail i)))
+  oddly_alike [] h = refl
+  oddly_alike (x ∷ xs) h = rw (h x (Memᴰ.head refl), oddly_alike xs (λ y i. h y (Memᴰ.tail i)))
 
 -- Tests of a mapped row.
 module _ {X Y : Type 0} (f : X → Y) (p : Y → Bool) where
