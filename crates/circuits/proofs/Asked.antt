@@ -7,8 +7,8 @@ use native.Mathlib.Omega.{arith}
 use lib.ListN.{length, get_or}
 use lib.Dec.{eqb}
 use borrow.Author.Tests.{eqb-true, eq-eqb, ne_eqb}
-use Rattle.ways.specs.Ways.{run}
-use Rattle.ways.proofs.Rows.{some_in, in_some, none_of}
+use Rattle.std.specs.List.{fold}
+use Rattle.ways.proofs.Rows.{list_any-mem, mem-list_any, none_of}
 use Rattle.ways.proofs.Bools.{never_both}
 use Rattle.tables.specs.Literal.{var, valued}
 use Rattle.rules.specs.Kinds.{rule}
@@ -25,7 +25,7 @@ use Rattle.circuits.proofs.Levels.{level_is, level_rises, levels_low}
 -- An output is some gate's, and what is no output is none's.
 pub gate_of_output : (gs : List Gate) (v : ℕ) → is_output gs v ≡ true → (g : Gate) × Memᴰ g gs × (g.output ≡ v)
 unfolding is_output
-gate_of_output gs v e = let (g, i, q) = some_in (λ g. eqb g.output v) gs e in (g, i, eqb-true g.output v q)
+gate_of_output gs v e = let (g, i, q) = list_any-mem (λ g. eqb g.output v) gs e in (g, i, eqb-true g.output v q)
 
 pub no_output : (gs : List Gate) (v : ℕ) → is_output gs v ≡ false → (g : Gate) → Memᴰ g gs → v ≡ g.output → ⊥
 unfolding is_output
@@ -33,7 +33,7 @@ no_output gs v e g i q = never_both (eq-eqb g.output v (sym q)) (none_of (λ g. 
 
 pub is_output_mem : (gs : List Gate) (g : Gate) → Memᴰ g gs → is_output gs g.output ≡ true
 unfolding is_output
-is_output_mem gs g i = in_some (λ h. eqb h.output g.output) gs g i (eq-eqb g.output g.output refl)
+is_output_mem gs g i = mem-list_any (λ h. eqb h.output g.output) gs g i (eq-eqb g.output g.output refl)
 
 -- One question: to a variable that is no output, and to a gate's output.
 module _ (F : ℕ → Bool) (v : ℕ) where
@@ -46,22 +46,20 @@ module _ (F : ℕ → Bool) (v : ℕ) where
   hit : (value : Bool) (g : Gate) → g.output ≡ v → pick value g ≡ rule g.kind F g.inputs
   hit value g e = rw (pick, eq-eqb g.output v e)
 
-  pick_other : (gs : List Gate) → ((g : Gate) → Memᴰ g gs → v ≡ g.output → ⊥) → (value : Bool) → run pick value gs ≡ value
-  unfolding run
+  pick_other : (gs : List Gate) → ((g : Gate) → Memᴰ g gs → v ≡ g.output → ⊥) → (value : Bool) → fold pick value gs ≡ value
   pick_other [] k value = refl
-  pick_other (g ∷ gs) k value = ap (λ x. run pick x gs) (miss value g (k g (Memᴰ.head refl))) ∙ pick_other gs (λ h i. k h (Memᴰ.tail i)) value
+  pick_other (g ∷ gs) k value = ap (λ x. fold pick x gs) (miss value g (k g (Memᴰ.head refl))) ∙ pick_other gs (λ h i. k h (Memᴰ.tail i)) value
 
-  pick_gate : {gs : List Gate} → Ordered gs → (g : Gate) → Memᴰ g gs → g.output ≡ v → (value : Bool) → run pick value gs ≡ rule g.kind F g.inputs
-  unfolding run
+  pick_gate : {gs : List Gate} → Ordered gs → (g : Gate) → Memᴰ g gs → g.output ≡ v → (value : Bool) → fold pick value gs ≡ rule g.kind F g.inputs
   pick_gate none g i e value = elim i [ ]
   pick_gate (next {g = h} {gs = gs} s b o) g (Memᴰ.head q) e value =
       let f : h.output ≡ v = ap (λ (k : Gate). k.output) (sym q) ∙ e in
-      ap (λ x. run pick x gs) (hit value h f) ∙ pick_other gs (λ k i r. (b k i).other (f ∙ r)) (rule h.kind F h.inputs) ∙ ap (λ (k : Gate). rule k.kind F k.inputs) (sym q)
+      ap (λ x. fold pick x gs) (hit value h f) ∙ pick_other gs (λ k i r. (b k i).other (f ∙ r)) (rule h.kind F h.inputs) ∙ ap (λ (k : Gate). rule k.kind F k.inputs) (sym q)
   pick_gate (next {g = h} {gs = gs} s b o) g (Memᴰ.tail i) e value = pick_gate o g i e (pick value h)
 
 module _ (n : ℕ) {gs : List Gate} (order : Ordered gs) (w : Within n gs) (given : List ℕ) (long : n ≤ length given) where
   abbrev end : ℕ → Bool
-  end = valued (run fill_step given gs)
+  end = valued (fold fill_step given gs)
 
   level : ℕ → ℕ
   level v = get_or (levels n gs) v 0

@@ -5,10 +5,10 @@ use mathlib.Core.Bool.{Bool, true, false, cond}
 use mathlib.Core.List.{List, Memᴰ}
 use mathlib.Core.Logic.{⊎_elim}
 use lib.ListN.{set, replicate, length-set, length-replicate}
-use Rattle.ways.specs.Ways.{run, some}
+use Rattle.std.specs.List.{fold, list_any}
 use Rattle.ways.proofs.Bools.{clash_of}
-use Rattle.ways.proofs.Runs.{run_keeps}
-use Rattle.ways.proofs.Rows.{in_some, some_in}
+use Rattle.ways.proofs.Runs.{fold_keeps}
+use Rattle.ways.proofs.Rows.{mem-list_any, list_any-mem}
 use Rattle.tables.specs.Literal.{var}
 use Rattle.rules.specs.Forced.{marked}
 use Rattle.rules.specs.Patterns.{Gate}
@@ -24,14 +24,14 @@ pub data Depends (gs : List Gate) (o : ℕ) : ℕ → Type 0 where
 module _ (n : ℕ) (gs : List Gate) (o : ℕ) where
   pub only_depends : (v : ℕ) → marked (dependents n gs o) v ≡ true → Depends gs o v
   unfolding dependents depend_step touched
-  only_depends = run_keeps depend_step All gs (λ m g i h. go m g i h (touched m g) refl) (set (replicate (n + 1) 0) o 1)
+  only_depends = fold_keeps depend_step All gs (λ m g i h. go m g i h (touched m g) refl) (set (replicate (n + 1) 0) o 1)
       (λ v e. ⊎_elim itself (λ q. clash_of (sym q ∙ none_marked (n + 1) v)) (set_was (replicate (n + 1) 0) o v e))
     where
       All : List ℕ → Type 0
       All m = (v : ℕ) → marked m v ≡ true → Depends gs o v
 
-      go : (m : List ℕ) (g : Gate) → Memᴰ g gs → All m → (b : Bool) → some (λ x. marked m (var x)) g.inputs ≡ b → All (cond b (set m g.output 1) m)
-      go m g i h true e v f = let (x, j, t) = some_in _ g.inputs e in ⊎_elim (λ q. through g i q x j (h (var x) t)) (h v) (set_was m g.output v f)
+      go : (m : List ℕ) (g : Gate) → Memᴰ g gs → All m → (b : Bool) → list_any (λ x. marked m (var x)) g.inputs ≡ b → All (cond b (set m g.output 1) m)
+      go m g i h true e v f = let (x, j, t) = list_any-mem _ g.inputs e in ⊎_elim (λ q. through g i q x j (h (var x) t)) (h v) (set_was m g.output v f)
       go m g i h false e v f = h v f
 
   pub all_depends : Ordered gs → ((h : Gate) → Memᴰ h gs → h.output < n + 1) → o < n + 1 → (v : ℕ) → Depends gs o v → marked (dependents n gs o) v ≡ true
@@ -40,5 +40,5 @@ module _ (n : ℕ) (gs : List Gate) (o : ℕ) where
       mark_stays (n + 1) gs (set (replicate (n + 1) 0) o 1) v (rw e (own_mark n o low))
   all_depends ord inside low v (through g i q x j d) =
       let r = all_depends ord inside low (var x) d in
-      ap (marked (run depend_step (set (replicate (n + 1) 0) o 1) gs)) q
-      ∙ closed (n + 1) ord (set (replicate (n + 1) 0) o 1) (length-set (replicate (n + 1) 0) o 1 ∙ length-replicate (n + 1) 0) g i (inside g i) (in_some _ g.inputs x j r)
+      ap (marked (fold depend_step (set (replicate (n + 1) 0) o 1) gs)) q
+      ∙ closed (n + 1) ord (set (replicate (n + 1) 0) o 1) (length-set (replicate (n + 1) 0) o 1 ∙ length-replicate (n + 1) 0) g i (inside g i) (mem-list_any _ g.inputs x j r)

@@ -7,7 +7,7 @@ use native.Mathlib.Omega.{arith}
 use lib.ListN.{length, set, length-set}
 use lib.Seq.{get_or-set_same, get_or-set_other}
 use lib.Dec.{eqb}
-use Rattle.ways.specs.Ways.{run}
+use Rattle.std.specs.List.{fold}
 use Rattle.tables.specs.Literal.{var, valued}
 use Rattle.rules.specs.Kinds.{rule}
 use Rattle.rules.specs.Patterns.{Gate}
@@ -54,14 +54,12 @@ pub step_same : (values : List ℕ) (g : Gate) → 1 ≤ g.output → g.output �
 unfolding fill_step
 step_same values g h l = valued_same values g.output (bit (rule g.kind (valued values) g.inputs)) h l ∙ bit_is _
 
-pub fill_long : (gs : List Gate) (values : List ℕ) → length (run fill_step values gs) ≡ length values
-unfolding run
+pub fill_long : (gs : List Gate) (values : List ℕ) → length (fold fill_step values gs) ≡ length values
 fill_long [] values = refl
 fill_long (g ∷ gs) values = fill_long gs (fill_step values g) ∙ step_long values g
 
 -- A variable that is no output keeps its value.
-pub fill_other : (n : ℕ) (gs : List Gate) → Within n gs → (values : List ℕ) (v : ℕ) → ((g : Gate) → Memᴰ g gs → v ≡ g.output → ⊥) → valued (run fill_step values gs) v ≡ valued values v
-unfolding run
+pub fill_other : (n : ℕ) (gs : List Gate) → Within n gs → (values : List ℕ) (v : ℕ) → ((g : Gate) → Memᴰ g gs → v ≡ g.output → ⊥) → valued (fold fill_step values gs) v ≡ valued values v
 fill_other n [] w values v k = refl
 fill_other n (g ∷ gs) w values v k =
     fill_other n gs (λ h i. w h (Memᴰ.tail i)) (fill_step values g) v (λ h i. k h (Memᴰ.tail i))
@@ -69,13 +67,12 @@ fill_other n (g ∷ gs) w values v k =
 
 -- In the end each output has its rule's value of the values in the end.
 pub fill_rules : (n : ℕ) {gs : List Gate} → Ordered gs → Within n gs → (values : List ℕ) → n ≤ length values
-    → (g : Gate) → Memᴰ g gs → valued (run fill_step values gs) g.output ≡ rule g.kind (valued (run fill_step values gs)) g.inputs
-unfolding run
+    → (g : Gate) → Memᴰ g gs → valued (fold fill_step values gs) g.output ≡ rule g.kind (valued (fold fill_step values gs)) g.inputs
 fill_rules n none w values l h i = elim i [ ]
 fill_rules n (next {g = g} {gs = gs} s b o) w values l h (Memᴰ.head q) = subst (λ f. valued end f.output ≡ rule f.kind (valued end) f.inputs) (sym q) first
   where
     end : List ℕ
-    end = run fill_step (fill_step values g) gs
+    end = fold fill_step (fill_step values g) gs
 
     low : (1 ≤ g.output) × (g.output ≤ n)
     low = w g (Memᴰ.head refl)

@@ -6,7 +6,7 @@ use mathlib.Core.Logic.{◌⊎◌, ⊎_elim}
 use native.Mathlib.Omega.{arith}
 use lib.ListN.{length, get_or, set, length-set, replicate, length-replicate}
 use lib.Seq.{get_or-set_same, get_or-set_other}
-use Rattle.ways.specs.Ways.{run}
+use Rattle.std.specs.List.{fold}
 use Rattle.tables.specs.Literal.{var}
 use Rattle.rules.specs.Patterns.{Gate}
 use Rattle.rules.specs.Circuit.{highest, level_step, levels}
@@ -14,25 +14,24 @@ use Rattle.circuits.proofs.Order.{Ordered, none, next}
 
 -- the highest looks at its inputs only
 high_like : (lv kv ins : List ℕ) (k : ℕ) → ((x : ℕ) → Memᴰ x ins → get_or lv (var x) 0 ≡ get_or kv (var x) 0)
-    → run (λ k x. max k (get_or lv (var x) 0)) k ins ≡ run (λ k x. max k (get_or kv (var x) 0)) k ins
-unfolding run
+    → fold (λ k x. max k (get_or lv (var x) 0)) k ins ≡ fold (λ k x. max k (get_or kv (var x) 0)) k ins
 high_like lv kv [] k h = refl
 high_like lv kv (x ∷ ins) k h = rw (h x (Memᴰ.head refl)) (high_like lv kv ins (max k (get_or kv (var x) 0)) (λ y i. h y (Memᴰ.tail i)))
 
-level_other : (gs : List Gate) (lv : List ℕ) (v : ℕ) → ((h : Gate) → Memᴰ h gs → v ≡ h.output → ⊥) → get_or (run level_step lv gs) v 0 ≡ get_or lv v 0
-unfolding run level_step
+level_other : (gs : List Gate) (lv : List ℕ) (v : ℕ) → ((h : Gate) → Memᴰ h gs → v ≡ h.output → ⊥) → get_or (fold level_step lv gs) v 0 ≡ get_or lv v 0
+unfolding level_step
 level_other [] lv v n = refl
 level_other (g ∷ gs) lv v n =
     level_other gs (level_step lv g) v (λ h i. n h (Memᴰ.tail i)) ∙ get_or-set_other lv g.output v _ 0 (n g (Memᴰ.head refl))
 
 pub level_rules : {gs : List Gate} → Ordered gs → (lv : List ℕ) → ((h : Gate) → Memᴰ h gs → h.output < length lv)
-    → (g : Gate) → Memᴰ g gs → get_or (run level_step lv gs) g.output 0 ≡ suc (highest (run level_step lv gs) g.inputs)
-unfolding run level_step highest
+    → (g : Gate) → Memᴰ g gs → get_or (fold level_step lv gs) g.output 0 ≡ suc (highest (fold level_step lv gs) g.inputs)
+unfolding level_step highest
 level_rules none lv l h i = elim i [ ]
 level_rules (next {g = g} {gs = gs} s b o) lv l h (Memᴰ.head q) = subst (λ f. get_or fin f.output 0 ≡ suc (highest fin f.inputs)) (sym q) first
   where
     fin : List ℕ
-    fin = run level_step (level_step lv g) gs
+    fin = fold level_step (level_step lv g) gs
 
     inputs : (x : ℕ) → Memᴰ x g.inputs → get_or lv (var x) 0 ≡ get_or fin (var x) 0
     inputs x i = sym (level_other gs (level_step lv g) (var x) (λ h j. (b h j).apart x i) ∙ get_or-set_other lv g.output (var x) _ 0 (s x i))
@@ -44,19 +43,16 @@ level_rules (next {g = g} {gs = gs} s b o) lv l h (Memᴰ.head q) = subst (λ f.
 level_rules (next {g = g} s b o) lv l h (Memᴰ.tail i) = level_rules o (level_step lv g) (λ f j. rw (length-set lv g.output (suc (highest lv g.inputs))) (l f (Memᴰ.tail j))) h i
 
 -- The highest is no lower than any input's level, and no higher than a bound on all of them.
-high_over : (lv : List ℕ) (inputs : List ℕ) (k : ℕ) → k ≤ run (λ k x. max k (get_or lv (var x) 0)) k inputs
-unfolding run
+high_over : (lv : List ℕ) (inputs : List ℕ) (k : ℕ) → k ≤ fold (λ k x. max k (get_or lv (var x) 0)) k inputs
 high_over lv [] k = omega arith
 high_over lv (x ∷ inputs) k = omega (arith, high_over lv inputs (max k (get_or lv (var x) 0)))
 
-high_above : (lv : List ℕ) (inputs : List ℕ) (k x : ℕ) → Memᴰ x inputs → get_or lv (var x) 0 ≤ run (λ k x. max k (get_or lv (var x) 0)) k inputs
-unfolding run
+high_above : (lv : List ℕ) (inputs : List ℕ) (k x : ℕ) → Memᴰ x inputs → get_or lv (var x) 0 ≤ fold (λ k x. max k (get_or lv (var x) 0)) k inputs
 high_above lv [] k x i = elim i [ ]
 high_above lv (y ∷ inputs) k x (Memᴰ.head q) = rw q (omega (arith, high_over lv inputs (max k (get_or lv (var y) 0))))
 high_above lv (y ∷ inputs) k x (Memᴰ.tail i) = high_above lv inputs (max k (get_or lv (var y) 0)) x i
 
-high_below : (lv : List ℕ) (inputs : List ℕ) (k b : ℕ) → k ≤ b → ((v : ℕ) → get_or lv v 0 ≤ b) → run (λ k x. max k (get_or lv (var x) 0)) k inputs ≤ b
-unfolding run
+high_below : (lv : List ℕ) (inputs : List ℕ) (k b : ℕ) → k ≤ b → ((v : ℕ) → get_or lv v 0 ≤ b) → fold (λ k x. max k (get_or lv (var x) 0)) k inputs ≤ b
 high_below lv [] k b h all = h
 high_below lv (x ∷ inputs) k b h all = let q = all (var x) in high_below lv inputs (max k (get_or lv (var x) 0)) b (omega arith) all
 
@@ -70,8 +66,8 @@ none_high (suc k) zero = refl
 none_high (suc k) (suc v) = none_high k v
 
 -- After j more gates no level is more than j higher than before.
-run_low : (gs : List Gate) (lv : List ℕ) (b : ℕ) → ((v : ℕ) → get_or lv v 0 ≤ b) → (v : ℕ) → get_or (run level_step lv gs) v 0 ≤ b + length gs
-unfolding run level_step highest
+run_low : (gs : List Gate) (lv : List ℕ) (b : ℕ) → ((v : ℕ) → get_or lv v 0 ≤ b) → (v : ℕ) → get_or (fold level_step lv gs) v 0 ≤ b + length gs
+unfolding level_step highest
 run_low [] lv b h v = let q = h v in omega arith
 run_low (g ∷ gs) lv b h v = let q = run_low gs (level_step lv g) (b + 1) (λ u. one u) v in omega arith
   where

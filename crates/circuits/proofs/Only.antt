@@ -10,7 +10,7 @@ use native.Mathlib.Omega.{arith}
 use lib.ListN.{length}
 use lib.Dec.{eqb}
 use borrow.Author.Tests.{eqb-true, eqb-false}
-use Rattle.ways.specs.Ways.{run}
+use Rattle.std.specs.List.{fold}
 use Rattle.tables.specs.Literal.{var, valued}
 use Rattle.rules.specs.Patterns.{Gate}
 use Rattle.rules.specs.Fill.{fill_step}
@@ -27,8 +27,7 @@ NoOutput gs v = (g : Gate) → Memᴰ g gs → v ≡ g.output → ⊥
 module _ (P : ℕ → Type 0) (n : ℕ) (a : ℕ → Bool) where
   pub fill_only : {gs : List Gate} → Ordered gs → Within n gs → ((g : Gate) → Memᴰ g gs → (x : ℕ) → Memᴰ x g.inputs → P (var x))
       → ((g : Gate) → Memᴰ g gs → Meets a g) → (values : List ℕ) → n ≤ length values
-      → ((v : ℕ) → P v → NoOutput gs v → valued values v ≡ a v) → (v : ℕ) → P v → valued (run fill_step values gs) v ≡ a v
-  unfolding run
+      → ((v : ℕ) → P v → NoOutput gs v → valued values v ≡ a v) → (v : ℕ) → P v → valued (fold fill_step values gs) v ≡ a v
   fill_only none w inside meets values long same v p = same v p (λ g i. absurd (Memᴰ.not-nil i))
   fill_only (next {g = g} {gs = gs} self before o) w inside meets values long same v p =
       fill_only o (λ h i. w h (Memᴰ.tail i)) (λ h i. inside h (Memᴰ.tail i)) (λ h i. meets h (Memᴰ.tail i)) (fill_step values g) long' same' v p

@@ -8,10 +8,11 @@ use mathlib.Core.Logic.{⊎_elim}
 use lib.ListN.{length, set, replicate, length-set, length-replicate}
 use lib.Seq.{get_or-set_same}
 use borrow.Author.Tests.{eq-eqb, not-true}
-use Rattle.ways.specs.Ways.{run, some, keep}
-use Rattle.ways.proofs.Bools.{clash_of, and_left, and_right}
-use Rattle.ways.proofs.Runs.{run_keeps}
-use Rattle.ways.proofs.Rows.{in_some, some_in, none_of, keep_in}
+use Rattle.std.specs.List.{fold, list_any, filter}
+use Rattle.std.proofs.lemmas.Bool.{and_parts}
+use Rattle.ways.proofs.Bools.{clash_of}
+use Rattle.ways.proofs.Runs.{fold_keeps}
+use Rattle.ways.proofs.Rows.{mem-list_any, list_any-mem, none_of, filter-mem}
 use Rattle.tables.specs.Literal.{var}
 use Rattle.rules.specs.Forced.{marked}
 use Rattle.rules.specs.Patterns.{Gate}
@@ -36,13 +37,12 @@ self_of none h i = elim i [ ]
 self_of (next {g = g} s b o) h (Memᴰ.head e) = subst (λ k. Apart k k) (sym e) s
 self_of (next s b o) h (Memᴰ.tail i) = self_of o h i
 
-keep_ordered : (p : Gate → Bool) {gs : List Gate} → Ordered gs → Ordered (keep p gs)
-unfolding keep
+keep_ordered : (p : Gate → Bool) {gs : List Gate} → Ordered gs → Ordered (filter p gs)
 keep_ordered p none = none
 keep_ordered p (next {g = g} {gs = gs} s b o) = go (p g) (keep_ordered p o)
   where
-    go : (t : Bool) → Ordered (keep p gs) → Ordered (cond t (g ∷ keep p gs) (keep p gs))
-    go true k = next s (λ h i. b h (keep_in p gs h i).0) k
+    go : (t : Bool) → Ordered (filter p gs) → Ordered (cond t (g ∷ filter p gs) (filter p gs))
+    go true k = next s (λ h i. b h (filter-mem p gs h i).0) k
     go false k = k
 
 append_ordered : {gs hs : List Gate} → Ordered gs → Ordered hs → ((g : Gate) → Memᴰ g gs → (h : Gate) → Memᴰ h hs → Before g h) → Ordered (gs ++ hs)
@@ -61,8 +61,8 @@ set_keeps (x ∷ m) (suc b) (suc v) e = set_keeps m b v e
 -- the marks of what depends on a variable: once a gate's input is marked, its output is
 module _ (k : ℕ) where
   -- a mark that no later gate sets was there
-  mark_was : (gs : List Gate) (m : List ℕ) (v : ℕ) → ((h : Gate) → Memᴰ h gs → v ≡ h.output → ⊥) → marked (run depend_step m gs) v ≡ true → marked m v ≡ true
-  unfolding run depend_step
+  mark_was : (gs : List Gate) (m : List ℕ) (v : ℕ) → ((h : Gate) → Memᴰ h gs → v ≡ h.output → ⊥) → marked (fold depend_step m gs) v ≡ true → marked m v ≡ true
+  unfolding depend_step
   mark_was [] m v n e = e
   mark_was (g ∷ gs) m v n e = go (touched m g) (mark_was gs (depend_step m g) v (λ h i. n h (Memᴰ.tail i)) e)
     where
@@ -78,8 +78,8 @@ module _ (k : ℕ) where
       go true = set_keeps m g.output v f
       go false = f
 
-  pub mark_stays : (gs : List Gate) (m : List ℕ) (v : ℕ) → marked m v ≡ true → marked (run depend_step m gs) v ≡ true
-  mark_stays gs m v e = run_keeps depend_step (λ m. marked m v ≡ true) gs (λ m g i. step_stays m g v) m e
+  pub mark_stays : (gs : List Gate) (m : List ℕ) (v : ℕ) → marked m v ≡ true → marked (fold depend_step m gs) v ≡ true
+  mark_stays gs m v e = fold_keeps depend_step (λ m. marked m v ≡ true) gs (λ m g i. step_stays m g v) m e
 
   step_long : (m : List ℕ) (g : Gate) → length m ≡ k → length (depend_step m g) ≡ k
   unfolding depend_step
@@ -94,16 +94,16 @@ module _ (k : ℕ) where
   step_sets m g l b t = rw t (eq-eqb _ 1 (get_or-set_same m g.output 1 0 (rw l b)))
 
   pub closed : {gs : List Gate} → Ordered gs → (m : List ℕ) → length m ≡ k → (h : Gate) → Memᴰ h gs → h.output < k
-      → touched (run depend_step m gs) h ≡ true → marked (run depend_step m gs) h.output ≡ true
-  unfolding run touched
+      → touched (fold depend_step m gs) h ≡ true → marked (fold depend_step m gs) h.output ≡ true
+  unfolding touched
   closed none m l h i b e = elim i [ ]
   closed (next {g = g} {gs = gs} s bf o) m l h (Memᴰ.head q) b e =
-      let e' = subst (λ f. some (λ x. marked (run depend_step (depend_step m g) gs) (var x)) f.inputs ≡ true) q e in
-      let (x, i, t) = some_in _ g.inputs e' in
+      let e' = subst (λ f. list_any (λ x. marked (fold depend_step (depend_step m g) gs) (var x)) f.inputs ≡ true) q e in
+      let (x, i, t) = list_any-mem _ g.inputs e' in
       let u : marked (depend_step m g) (var x) ≡ true = mark_was gs (depend_step m g) (var x) (λ h j. (bf h j).apart x i) t in
       let w : marked m (var x) ≡ true = step_was x i u in
-      subst (λ f. marked (run depend_step (depend_step m g) gs) f.output ≡ true) (sym q)
-      (mark_stays gs (depend_step m g) g.output (step_sets m g l (subst (λ f. f.output < k) q b) (in_some _ g.inputs x i w)))
+      subst (λ f. marked (fold depend_step (depend_step m g) gs) f.output ≡ true) (sym q)
+      (mark_stays gs (depend_step m g) g.output (step_sets m g l (subst (λ f. f.output < k) q b) (mem-list_any _ g.inputs x i w)))
     where
       step_was : (x : ℕ) → Memᴰ x g.inputs → marked (depend_step m g) (var x) ≡ true → marked m (var x) ≡ true
       step_was x i u = mark_was (g ∷ []) m (var x) (λ h j. ⊎_elim (λ q r. s x i (r ∙ ap (λ (f : Gate). f.output) q)) (λ n. absurd (Memᴰ.not-nil n)) (Memᴰ.cases_cons j)) u
@@ -120,15 +120,15 @@ module _ (n : ℕ) (gs : List Gate) (g : Gate) (o : Ordered gs) (inside : (h : G
 
   fresh : (h : Gate) → Memᴰ h gs → h.output ≡ g.output → ⊥
   unfolding allowed is_output
-  fresh h i e = clash_of (sym (eq-eqb h.output g.output e) ∙ none_of _ gs (not-true _ (and_left _ _ ok)) h i)
+  fresh h i e = clash_of (sym (eq-eqb h.output g.output e) ∙ none_of _ gs (not-true _ (and_parts _ _ ok).0) h i)
 
   clear : touched d g ≡ false
   unfolding allowed d
-  clear = not-true _ (and_right (not (is_output gs g.output)) _ ok)
+  clear = not-true _ (and_parts (not (is_output gs g.output)) _ ok).1
 
   d_closed : (h : Gate) → Memᴰ h gs → (x : ℕ) → Memᴰ x h.inputs → marked d (var x) ≡ true → marked d h.output ≡ true
   unfolding d dependents touched
-  d_closed h i x j e = closed (n + 1) o (set (replicate (n + 1) 0) g.output 1) (length-set (replicate (n + 1) 0) g.output 1 ∙ length-replicate (n + 1) 0) h i (inside h i) (in_some _ h.inputs x j e)
+  d_closed h i x j e = closed (n + 1) o (set (replicate (n + 1) 0) g.output 1) (length-set (replicate (n + 1) 0) g.output 1 ∙ length-replicate (n + 1) 0) h i (inside h i) (mem-list_any _ h.inputs x j e)
 
   d_own : marked d g.output ≡ true
   unfolding d dependents
@@ -145,16 +145,16 @@ module _ (n : ℕ) (gs : List Gate) (g : Gate) (o : Ordered gs) (inside : (h : G
       off : (f : Gate) → Memᴰ f gs → not (marked d f.output) ≡ true → (x : ℕ) → Memᴰ x f.inputs → marked d (var x) ≡ true → ⊥
       off f i e x j t = clash_of (sym (d_closed f i x j t) ∙ not-true _ e)
 
-      late : (h : Gate) → Memᴰ h (keep (λ h. marked d h.output) gs) → Before g h
+      late : (h : Gate) → Memᴰ h (filter (λ h. marked d h.output) gs) → Before g h
       late h i =
-          let (j, t) = keep_in _ gs h i in
+          let (j, t) = filter-mem _ gs h i in
           record { apart = λ x k q. untouched x k (ap (marked d) q ∙ t); other = λ q. fresh h j (sym q) }
 
-      cross : (f : Gate) → Memᴰ f (keep (λ h. not (marked d h.output)) gs) → (h : Gate) → Memᴰ h (g ∷ keep (λ h. marked d h.output) gs) → Before f h
+      cross : (f : Gate) → Memᴰ f (filter (λ h. not (marked d h.output)) gs) → (h : Gate) → Memᴰ h (g ∷ filter (λ h. marked d h.output) gs) → Before f h
       cross f i h j =
-          let (k, e) = keep_in _ gs f i in
+          let (k, e) = filter-mem _ gs f i in
           ⊎_elim
           (λ q. subst (Before f) (sym q) (record { apart = λ x w p. off f k e x w (ap (marked d) p ∙ d_own); other = fresh f k }))
-          (λ j. let (w, t) = keep_in _ gs h j in
+          (λ j. let (w, t) = filter-mem _ gs h j in
           record { apart = λ x v p. off f k e x v (ap (marked d) p ∙ t); other = λ p. clash_of (sym t ∙ ap (marked d) (sym p) ∙ not-true _ e) })
           (Memᴰ.cases_cons j)

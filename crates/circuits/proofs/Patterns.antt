@@ -8,9 +8,12 @@ use mathlib.Core.List.{List, [], ◌∷◌, ◌++◌, map, Memᴰ}
 use mathlib.Core.Logic.{⊎_elim, ◌↔◌}
 use lib.Dec.{eqb}
 use borrow.Author.Tests.{eqb-true, eq-eqb, ne_eqb}
-use Rattle.ways.specs.Ways.{some, every, oddly, keep}
-use Rattle.ways.proofs.Bools.{agree, or_cases, or_left, or_right}
-use Rattle.ways.proofs.Rows.{some_in, in_some, keep_in, in_keep, every-map, every_alike, every-not, oddly-map}
+use Rattle.std.specs.List.{list_any, list_all, filter}
+use Rattle.ways.specs.Ways.{oddly}
+use Rattle.std.proofs.lemmas.Bool.{or_cases, or_left, or_right}
+use Rattle.ways.proofs.Bools.{agree}
+use Rattle.std.proofs.lemmas.List.Folds.{list_all-map}
+use Rattle.ways.proofs.Rows.{list_any-mem, mem-list_any, filter-mem, mem-filter, list_all_alike, list_all-not, oddly-map}
 use Rattle.tables.specs.Literal.{var, neg, opp, holds}
 use Rattle.tables.specs.Clause.{satisfies, satisfies_all}
 use Rattle.tables.proofs.Literals.{holds_pos, holds-neg, holds-opp}
@@ -40,16 +43,16 @@ iff p v w e = ((λ q. replace v w (sym e ∙ q)), (λ q. e ∙ from v w q))
 module _ (a : ℕ → Bool) where
   -- Parity: the signings of one kind hold together exactly where the number of ones is of the other kind.
   under : (l : ℕ) (cs : List (List ℕ)) → satisfies_all a (map (λ c. l ∷ c) cs) ≡ (holds a l || satisfies_all a cs)
-  unfolding satisfies_all every satisfies some
+  unfolding satisfies_all satisfies
   under l [] = sym (or-true (holds a l))
-  under l (c ∷ cs) = go (holds a l) (some (holds a) c) (every (satisfies a) (map (λ d. l ∷ d) cs)) (every (satisfies a) cs) (under l cs)
+  under l (c ∷ cs) = go (holds a l) (list_any (holds a) c) (list_all (satisfies a) (map (λ d. l ∷ d) cs)) (list_all (satisfies a) cs) (under l cs)
     where
       go : (b s e f : Bool) → e ≡ (b || f) → ((b || s) && e) ≡ (b || (s && f))
       go true s e f h = h
       go false s e f h = ap (λ t. s && t) h
 
   none_sat : (odd : Bool) → satisfies_all a (signings [] odd) ≡ xor odd false
-  unfolding signings satisfies_all every satisfies some xor
+  unfolding signings satisfies_all satisfies xor
   none_sat true = refl
   none_sat false = refl
 
@@ -69,7 +72,6 @@ module _ (a : ℕ → Bool) where
   cons v vs odd = refl
 
   pub signings_sat : (vs : List ℕ) (odd : Bool) → satisfies_all a (signings vs odd) ≡ xor odd (oddly a vs)
-  unfolding oddly
   signings_sat [] odd = none_sat odd
   signings_sat (v ∷ vs) odd =
       rw (cons, all_append a _ _, under (2 * v) (signings vs odd), under (2 * v + 1) (signings vs (not odd)), holds_pos a v, holds-neg a v, signings_sat vs odd, signings_sat vs (not odd))
@@ -82,21 +84,21 @@ module _ (a : ℕ → Bool) where
   others_sat : (c : List ℕ) (o : ℕ) → Memᴰ o c → satisfies a c ≡ (holds a o || satisfies a (others o c))
   unfolding satisfies others
   others_sat c o i = agree _ _
-      (λ e. let (x, j, h) = some_in (holds a) c e in go x j h (eqb x o) refl)
-      (λ e. ⊎_elim (in_some (holds a) c o i) (λ f. let (x, j, h) = some_in (holds a) _ f in in_some (holds a) c x (keep_in _ c x j).0 h) (or_cases _ _ e))
+      (λ e. let (x, j, h) = list_any-mem (holds a) c e in go x j h (eqb x o) refl)
+      (λ e. ⊎_elim (mem-list_any (holds a) c o i) (λ f. let (x, j, h) = list_any-mem (holds a) _ f in mem-list_any (holds a) c x (filter-mem _ c x j).0 h) (or_cases _ _ e))
     where
-      go : (x : ℕ) → Memᴰ x c → holds a x ≡ true → (b : Bool) → eqb x o ≡ b → (holds a o || some (holds a) (keep (λ y. not (eqb y o)) c)) ≡ true
+      go : (x : ℕ) → Memᴰ x c → holds a x ≡ true → (b : Bool) → eqb x o ≡ b → (holds a o || list_any (holds a) (filter (λ y. not (eqb y o)) c)) ≡ true
       go x j h true e = or_left _ _ (ap (holds a) (sym (eqb-true x o e)) ∙ h)
-      go x j h false e = or_right (holds a o) _ (in_some (holds a) _ x (in_keep _ c x j (ap not e)) h)
+      go x j h false e = or_right (holds a o) _ (mem-list_any (holds a) _ x (mem-filter _ c x j (ap not e)) h)
 
   side_sat : (o x : ℕ) → satisfies a (side o x) ≡ (not (holds a o) || not (holds a x))
-  unfolding side satisfies some
+  unfolding side satisfies
   side_sat o x = insert_sat a (opp o) (insert (opp x) []) ∙ rw (insert_sat a (opp x) [], holds-opp a o, holds-opp a x, or-false (not (holds a x)))
 
   sides_sat : (o : ℕ) (xs : List ℕ) → satisfies_all a (map (side o) xs) ≡ (not (holds a o) || not (satisfies a xs))
-  unfolding satisfies_all every satisfies some
+  unfolding satisfies_all satisfies
   sides_sat o [] = sym (or-true (not (holds a o)))
-  sides_sat o (x ∷ xs) = go (holds a o) (holds a x) (some (holds a) xs) (side_sat o x) (sides_sat o xs)
+  sides_sat o (x ∷ xs) = go (holds a o) (holds a x) (list_any (holds a) xs) (side_sat o x) (sides_sat o xs)
     where
       go : (p q r : Bool) {s t : Bool} → s ≡ (not p || not q) → t ≡ (not p || not r) → (s && t) ≡ (not p || not (q || r))
       go p q r e f = rw (e, f) (table p q r)
@@ -106,8 +108,8 @@ module _ (a : ℕ → Bool) where
           table true false r = refl
           table false q r = refl
 
-  not_some : (xs : List ℕ) → every (holds a) (map opp xs) ≡ not (some (holds a) xs)
-  not_some xs = every-map opp (holds a) xs ∙ every_alike (λ x. holds a (opp x)) (λ x. not (holds a x)) xs (λ x i. holds-opp a x) ∙ every-not (holds a) xs
+  not_some : (xs : List ℕ) → list_all (holds a) (map opp xs) ≡ not (list_any (holds a) xs)
+  not_some xs = list_all-map (holds a) opp xs ∙ list_all_alike (λ x. holds a (opp x)) (λ x. not (holds a x)) xs (λ x i. holds-opp a x) ∙ list_all-not (holds a) xs
 
   and_value : (c : List ℕ) (o : ℕ) → rule (and_form c o).kind a (and_form c o).inputs ≡ cond (neg o) (satisfies a (others o c)) (not (satisfies a (others o c)))
   unfolding and_form and_inputs satisfies
@@ -116,12 +118,12 @@ module _ (a : ℕ → Bool) where
       xs : List ℕ
       xs = others o c
 
-      go : (b : Bool) → cond b (some (holds a) (cond b xs (map opp xs))) (every (holds a) (cond b xs (map opp xs))) ≡ cond b (some (holds a) xs) (not (some (holds a) xs))
+      go : (b : Bool) → cond b (list_any (holds a) (cond b xs (map opp xs))) (list_all (holds a) (cond b xs (map opp xs))) ≡ cond b (list_any (holds a) xs) (not (list_any (holds a) xs))
       go true = refl
       go false = not_some xs
 
   pub and_meets : (c : List ℕ) (o : ℕ) → Memᴰ o c → (satisfies_all a (and_form c o).pattern ≡ true) ↔ Meets (and_form c o)
-  unfolding satisfies_all every and_form holds
+  unfolding satisfies_all and_form holds
   and_meets c o i = iff _ (a (var o)) _ (rw (others_sat c o i, sides_sat o (others o c)) (table (neg o) (a (var o)) (satisfies a (others o c)) ∙ ap (beq (a (var o))) (sym (and_value c o))))
     where
       table : (b v s : Bool) → ((cond b (not v) v || s) && (not (cond b (not v) v) || not s)) ≡ beq v (cond b s (not s))
@@ -134,8 +136,7 @@ module _ (a : ℕ → Bool) where
       table false false true = refl
       table false false false = refl
 
-  keep_all : (c : List ℕ) (o : ℕ) → (Memᴰ o c → ⊥) → keep (λ x. not (eqb x o)) c ≡ c
-  unfolding keep
+  keep_all : (c : List ℕ) (o : ℕ) → (Memᴰ o c → ⊥) → filter (λ x. not (eqb x o)) c ≡ c
   keep_all [] o h = refl
   keep_all (x ∷ c) o h = rw (ne_eqb x o (λ e. h (Memᴰ.head (sym e))), keep_all c o (λ i. h (Memᴰ.tail i)))
 
@@ -160,7 +161,7 @@ module _ (a : ℕ → Bool) where
   parity_table false false false = refl
 
   pub odd-others : (p : ℕ → Bool) (c : List ℕ) (o : ℕ) → Distinct c → Memᴰ o c → oddly p c ≡ xor (p o) (oddly p (others o c))
-  unfolding oddly others keep
+  unfolding others
   odd-others p [] o _ i = elim i [ ]
   odd-others p (x ∷ c) o (more h d) (Memᴰ.head q) = rw (eq-eqb x o (sym q), keep_all c o (λ i. h (Memᴰ.cast (sym q) i)), q)
   odd-others p (x ∷ c) o (more h d) (Memᴰ.tail i) = rw (ne_eqb x o (λ e. h (Memᴰ.cast e i)), odd-others p c o d i) (xor_swap (p x) (p o) (oddly p (others o c)))

@@ -10,9 +10,9 @@ use native.Mathlib.Omega.{arith}
 use lib.ListN.{length}
 use lib.Dec.{ltb}
 use borrow.Author.Tests.{eqb-false, not-true}
-use Rattle.ways.specs.Ways.{keep}
-use Rattle.ways.proofs.Runs.{run_keeps}
-use Rattle.ways.proofs.Rows.{keep_in}
+use Rattle.std.specs.List.{filter}
+use Rattle.ways.proofs.Runs.{fold_keeps}
+use Rattle.ways.proofs.Rows.{filter-mem}
 use Rattle.ways.proofs.Members.{map-mem}
 use Rattle.tables.specs.Literal.{var, neg, opp}
 use Rattle.tables.specs.Clause.{satisfies_all}
@@ -56,18 +56,18 @@ module _ (c : List ℕ) (o : ℕ) where
 
   pub others_in : (x : ℕ) → Memᴰ x (others o c) → Memᴰ x c
   unfolding others
-  others_in x j = (keep_in _ c x j).0
+  others_in x j = (filter-mem _ c x j).0
 
   module _ (proper : Proper c) (i : Memᴰ o c) where
     pub others_apart : (x : ℕ) → Memᴰ x (others o c) → var x ≡ var o → ⊥
     unfolding others
-    others_apart x j e = let (k, t) = keep_in _ c x j in eqb-false x o (not-true _ t) (proper.single x o k i e)
+    others_apart x j e = let (k, t) = filter-mem _ c x j in eqb-false x o (not-true _ t) (proper.single x o k i e)
 
 module _ (n : ℕ) (cs : List (List ℕ)) (inside : Inside n cs) (proper : (c : List ℕ) → Memᴰ c cs → Proper c) where
   candidate_valid : (c : List ℕ) → Memᴰ c cs → (g : Gate) → Memᴰ g (candidates cs c) → Valid n cs g
   unfolding candidates and_form parity
   candidate_valid c k g i =
-      let (j, t) = keep_in (found cs) _ g i in
+      let (j, t) = filter-mem (found cs) _ g i in
       ⊎_elim (λ j. from_parity (anchors cs c) j t) (λ j. let (o, w, q) = map-mem (and_form c) c g j in subst (Valid n cs) (sym q) (and_valid o w (ap (found cs) (sym q) ∙ t)))
       (Memᴰ.append_cases (cond (anchors cs c) (map (parity c) c) []) j)
     where
@@ -116,16 +116,16 @@ module _ (n : ℕ) (cs : List (List ℕ)) (inside : Inside n cs) (proper : (c : 
   place_taken gs g t v ok =
       record {
         order = place_ordered n gs g t.order (λ h i. let q = (t.valid h i).high in omega arith) (let q = v.high in omega arith) v.self ok;
-        valid = λ h i. new h (Memᴰ.append_cases (keep (λ f. not (marked D f.output)) gs) {t = g ∷ keep (λ f. marked D f.output) gs} i);
+        valid = λ h i. new h (Memᴰ.append_cases (filter (λ f. not (marked D f.output)) gs) {t = g ∷ filter (λ f. marked D f.output) gs} i);
       }
     where
       D : List ℕ
       D = dependents n gs g.output
 
-      new : (h : Gate) → Memᴰ h (keep (λ f. not (marked D f.output)) gs) ⊎ Memᴰ h (g ∷ keep (λ f. marked D f.output) gs) → Valid n cs h
-      new h (inl j) = t.valid h (keep_in (λ f. not (marked D f.output)) gs h j).0
+      new : (h : Gate) → Memᴰ h (filter (λ f. not (marked D f.output)) gs) ⊎ Memᴰ h (g ∷ filter (λ f. marked D f.output) gs) → Valid n cs h
+      new h (inl j) = t.valid h (filter-mem (λ f. not (marked D f.output)) gs h j).0
       new h (inr (Memᴰ.head q)) = subst (Valid n cs) (sym q) v
-      new h (inr (Memᴰ.tail j)) = t.valid h (keep_in (λ f. marked D f.output) gs h j).0
+      new h (inr (Memᴰ.tail j)) = t.valid h (filter-mem (λ f. marked D f.output) gs h j).0
 
   -- A rule of choice that allows no more than 01's.
   module _ (may : List Gate → Gate → Bool) (strict : (gs : List Gate) (g : Gate) → may gs g ≡ true → allowed n gs g ≡ true) where
@@ -140,7 +140,7 @@ module _ (n : ℕ) (cs : List (List ℕ)) (inside : Inside n cs) (proper : (c : 
 
     pub taken_is : Taken (taken_by may n cs)
     unfolding taken_by take_at
-    taken_is = run_keeps (take_at may n cs) Taken cs (λ gs c i t. go gs c i t (ltb 2 (length c))) [] (record { order = none; valid = λ g i. absurd (Memᴰ.not-nil i) })
+    taken_is = fold_keeps (take_at may n cs) Taken cs (λ gs c i t. go gs c i t (ltb 2 (length c))) [] (record { order = none; valid = λ g i. absurd (Memᴰ.not-nil i) })
       where
         go : (gs : List Gate) (c : List ℕ) → Memᴰ c cs → Taken gs → (b : Bool) → Taken (elim b as (λ _. List Gate) [ true ↦ take_first may n gs (candidates cs c) | false ↦ gs ])
         go gs c i t true = first_taken gs (candidates cs c) (candidate_valid c i) t

@@ -6,8 +6,9 @@ use mathlib.Core.Bool.{Bool, true, false, cond, not}
 use mathlib.Core.List.{List, map, Memᴰ}
 use lib.Dec.{eqb}
 use borrow.Author.Tests.{not-true}
-use Rattle.ways.specs.Ways.{some, every, oddly, range}
-use Rattle.ways.proofs.Rows.{every_all, every_alike, some_alike, oddly_alike, oddly-map, every-not, some-not}
+use Rattle.std.specs.List.{list_any, list_all, range_with_len}
+use Rattle.ways.specs.Ways.{oddly}
+use Rattle.ways.proofs.Rows.{list_all-mem, list_all_alike, list_any_alike, oddly_alike, oddly-map, list_all-not, list_any-not}
 use Rattle.tables.specs.Literal.{var, neg, holds}
 use Rattle.tables.proofs.Literals.{var_pos, holds_by, holds_alike}
 use Rattle.rules.specs.Kinds.{kinds, no_kind, kind_row, signs, and_kind, parity_kind, rule}
@@ -16,30 +17,30 @@ use Rattle.rules.specs.Kinds.{kinds, no_kind, kind_row, signs, and_kind, parity_
 pub right_row : ℕ → Bool
 right_row k = eqb ((kind_row k).output_sign * 3 + (kind_row k).input_signs) k
 
-pub rows_right : every right_row (range 0 6) ≡ true
-unfolding every range right_row kind_row kinds no_kind
+pub rows_right : list_all right_row (range_with_len 0 6) ≡ true
+unfolding right_row kind_row kinds no_kind
 rows_right = refl
 
 module _ (a : ℕ → Bool) where
   -- A positive literal has its variable's value, a negative one the opposite.
-  plus_is : (ls : List ℕ) → every (λ l. not (neg l)) ls ≡ true → (l : ℕ) → Memᴰ l ls → a (var l) ≡ holds a l
-  plus_is ls e l i = sym (holds_by a l ∙ rw (not-true (neg l) (every_all (λ k. not (neg k)) ls e l i)))
+  plus_is : (ls : List ℕ) → list_all (λ l. not (neg l)) ls ≡ true → (l : ℕ) → Memᴰ l ls → a (var l) ≡ holds a l
+  plus_is ls e l i = sym (holds_by a l ∙ rw (not-true (neg l) (list_all-mem (λ k. not (neg k)) ls e l i)))
 
-  minus_is : (ls : List ℕ) → every neg ls ≡ true → (l : ℕ) → Memᴰ l ls → not (a (var l)) ≡ holds a l
-  minus_is ls e l i = sym (holds_by a l ∙ rw (every_all neg ls e l i))
+  minus_is : (ls : List ℕ) → list_all neg ls ≡ true → (l : ℕ) → Memᴰ l ls → not (a (var l)) ≡ holds a l
+  minus_is ls e l i = sym (holds_by a l ∙ rw (list_all-mem neg ls e l i))
 
   -- The and-like kinds: every input literal holds where the output is positive, some input literal where it is negative.
-  pub and_rule : (o : ℕ) (ls : List ℕ) → rule (and_kind o ls) a ls ≡ cond (neg o) (some (holds a) ls) (every (holds a) ls)
+  pub and_rule : (o : ℕ) (ls : List ℕ) → rule (and_kind o ls) a ls ≡ cond (neg o) (list_any (holds a) ls) (list_all (holds a) ls)
   unfolding and_kind signs rule
-  and_rule o ls = go (neg o) (every (λ l. not (neg l)) ls) refl (every neg ls) refl
+  and_rule o ls = go (neg o) (list_all (λ l. not (neg l)) ls) refl (list_all neg ls) refl
     where
-      go : (b p : Bool) → every (λ l. not (neg l)) ls ≡ p → (q : Bool) → every neg ls ≡ q
-          → rule (cond b 3 0 + cond p 0 (cond q 1 2)) a ls ≡ cond b (some (holds a) ls) (every (holds a) ls)
-      go false true e q f = every_alike (λ l. a (var l)) (holds a) ls (plus_is ls e)
-      go false false e true f = sym (every-not (λ l. a (var l)) ls) ∙ every_alike (λ l. not (a (var l))) (holds a) ls (minus_is ls f)
+      go : (b p : Bool) → list_all (λ l. not (neg l)) ls ≡ p → (q : Bool) → list_all neg ls ≡ q
+          → rule (cond b 3 0 + cond p 0 (cond q 1 2)) a ls ≡ cond b (list_any (holds a) ls) (list_all (holds a) ls)
+      go false true e q f = list_all_alike (λ l. a (var l)) (holds a) ls (plus_is ls e)
+      go false false e true f = sym (list_all-not (λ l. a (var l)) ls) ∙ list_all_alike (λ l. not (a (var l))) (holds a) ls (minus_is ls f)
       go false false e false f = refl
-      go true true e q f = some_alike (λ l. a (var l)) (holds a) ls (plus_is ls e)
-      go true false e true f = sym (some-not (λ l. a (var l)) ls) ∙ some_alike (λ l. not (a (var l))) (holds a) ls (minus_is ls f)
+      go true true e q f = list_any_alike (λ l. a (var l)) (holds a) ls (plus_is ls e)
+      go true false e true f = sym (list_any-not (λ l. a (var l)) ls) ∙ list_any_alike (λ l. not (a (var l))) (holds a) ls (minus_is ls f)
       go true false e false f = refl
 
   -- The parity kinds.
@@ -58,9 +59,9 @@ module _ (a b : ℕ → Bool) where
   unfolding rule
   rule_alike k ls h =
       rw (
-        every_alike (λ l. a (var l)) (λ l. b (var l)) ls h,
-        some_alike (λ l. a (var l)) (λ l. b (var l)) ls h,
+        list_all_alike (λ l. a (var l)) (λ l. b (var l)) ls h,
+        list_any_alike (λ l. a (var l)) (λ l. b (var l)) ls h,
         oddly_alike (λ l. a (var l)) (λ l. b (var l)) ls h,
-        every_alike (holds a) (holds b) ls (λ l i. holds_alike a b l (h l i)),
-        some_alike (holds a) (holds b) ls (λ l i. holds_alike a b l (h l i)),
+        list_all_alike (holds a) (holds b) ls (λ l i. holds_alike a b l (h l i)),
+        list_any_alike (holds a) (holds b) ls (λ l i. holds_alike a b l (h l i)),
       )

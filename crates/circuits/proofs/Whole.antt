@@ -10,10 +10,13 @@ use lib.ListN.{length, get_or, length-map}
 use lib.Seq.{ext_get_or}
 use lib.Dec.{eqb, ltb}
 use borrow.Author.Tests.{eqb-true, eqb-false, eq-eqb, le-ltb, not-true}
-use Rattle.ways.specs.Ways.{run, every, keep, range}
-use Rattle.ways.proofs.Bools.{and_left, and_right, is_false, never_both}
-use Rattle.ways.proofs.Rows.{every_all, all_every, keep_in, in_keep}
-use Rattle.ways.proofs.Members.{among-mem, map-mem, get_or-mem, get_or-range, range_size}
+use Rattle.std.specs.List.{fold, list_all, filter, range_with_len}
+use Rattle.std.proofs.lemmas.Bool.{and_parts, false_from_ne_true}
+use Rattle.std.proofs.lemmas.List.FromFn.{length-range_with_len}
+use Rattle.ways.proofs.Bools.{never_both}
+use Rattle.ways.proofs.Rows.{list_all-mem, mem-list_all, filter-mem, mem-filter}
+use Rattle.std.proofs.lemmas.List.FromFn.{get_or-map-range_with_len}
+use Rattle.ways.proofs.Members.{among-mem, map-mem, get_or-mem}
 use Rattle.tables.specs.Literal.{var, holds, valued}
 use Rattle.tables.specs.Clause.{satisfies, satisfies_all}
 use Rattle.tables.proofs.Literals.{holds_pos, holds_alike}
@@ -42,21 +45,21 @@ split : (a : ℕ → Bool) (gs : List Gate) (cs : List (List ℕ)) → ((g : Gat
 unfolding satisfies_all residue found
 split a gs cs there = (
   (λ h. (
-    all_every (satisfies a) _ (λ c i. every_all (satisfies a) cs h c (keep_in _ cs c i).0),
-    λ g i. all_every (satisfies a) g.pattern (λ c j. every_all (satisfies a) cs h c (among-mem c cs (every_all _ g.pattern (there g i) c j))),
+    mem-list_all (satisfies a) _ (λ c i. list_all-mem (satisfies a) cs h c (filter-mem _ cs c i).0),
+    λ g i. mem-list_all (satisfies a) g.pattern (λ c j. list_all-mem (satisfies a) cs h c (among-mem c cs (list_all-mem _ g.pattern (there g i) c j))),
   )),
-  (λ h. all_every (satisfies a) cs (λ c i. go c i (in_pattern gs c) refl h.0 h.1)),
+  (λ h. mem-list_all (satisfies a) cs (λ c i. go c i (in_pattern gs c) refl h.0 h.1)),
 )
   where
-    go : (c : List ℕ) → Memᴰ c cs → (b : Bool) → in_pattern gs c ≡ b → every (satisfies a) (keep (λ c. not (in_pattern gs c)) cs) ≡ true
-        → ((g : Gate) → Memᴰ g gs → every (satisfies a) g.pattern ≡ true) → satisfies a c ≡ true
-    go c i true e r p = let (g, j, t) = in_pattern_gate gs c e in every_all (satisfies a) g.pattern (p g j) c (among-mem c g.pattern t)
-    go c i false e r p = every_all (satisfies a) _ r c (in_keep (λ c. not (in_pattern gs c)) cs c i (ap not e))
+    go : (c : List ℕ) → Memᴰ c cs → (b : Bool) → in_pattern gs c ≡ b → list_all (satisfies a) (filter (λ c. not (in_pattern gs c)) cs) ≡ true
+        → ((g : Gate) → Memᴰ g gs → list_all (satisfies a) g.pattern ≡ true) → satisfies a c ≡ true
+    go c i true e r p = let (g, j, t) = in_pattern_gate gs c e in list_all-mem (satisfies a) g.pattern (p g j) c (among-mem c g.pattern t)
+    go c i false e r p = list_all-mem (satisfies a) _ r c (mem-filter (λ c. not (in_pattern gs c)) cs c i (ap not e))
 
 -- A filled-in row has n values, each 0 or 1.
 pub filled_long : (n : ℕ) (st : List ℕ) (gs : List Gate) (given : List ℕ) → length (filled n st gs given) ≡ n
 unfolding filled
-filled_long n st gs given = length-map (range 1 n) (λ v. bit (holds (valued (fill_gates gs given)) (stands st v))) ∙ range_size 1 n
+filled_long n st gs given = length-map (range_with_len 1 n) (λ v. bit (holds (valued (fill_gates gs given)) (stands st v))) ∙ length-range_with_len 1 n
 
 bit_low : (b : Bool) → bit b ≤ 1
 unfolding bit
@@ -66,7 +69,7 @@ bit_low false = omega arith
 pub filled_bits : (n : ℕ) (st : List ℕ) (gs : List Gate) (given : List ℕ) (x : ℕ) → Memᴰ x (filled n st gs given) → x ≤ 1
 unfolding filled
 filled_bits n st gs given x i =
-    let (v, j, e) = map-mem (λ v. bit (holds (valued (fill_gates gs given)) (stands st v))) (range 1 n) x i in
+    let (v, j, e) = map-mem (λ v. bit (holds (valued (fill_gates gs given)) (stands st v))) (range_with_len 1 n) x i in
     subst (λ y. y ≤ 1) (sym e) (bit_low (holds (valued (fill_gates gs given)) (stands st v)))
 
 -- A value 0 or 1 comes back from its truth.
@@ -131,7 +134,7 @@ module _ (n : ℕ) (st : List ℕ) (cs : List (List ℕ)) (set : Settled n st cs
 
   module _ (given : List ℕ) (long : n ≤ length given) where
     abbrev end : ℕ → Bool
-    end = valued (run fill_step given gates)
+    end = valued (fold fill_step given gates)
 
     -- The value of every variable: what it stands for, in the values in the end.
     unfoldable pub through : ℕ → Bool
@@ -160,7 +163,7 @@ module _ (n : ℕ) (st : List ℕ) (cs : List (List ℕ)) (set : Settled n st cs
     unfolding residue
     filled_holds =
         let k = split end gates cs (λ g i. (are_taken.valid g i).there) in
-        let p = alike cs (λ c i. i) in let q = alike (residue gates cs) (λ c i. (keep_in _ cs c i).0) in
+        let p = alike cs (λ c i. i) in let q = alike (residue gates cs) (λ c i. (filter-mem _ cs c i).0) in
         ((λ h. q ∙ (k.0 (sym p ∙ h)).0), (λ h. p ∙ k.1 (sym q ∙ h, λ g i. ((are_taken.valid g i).meets end).1 (fill_rules n are_taken.order gates_within given long g i))))
 
     -- An assignment that gives every gate its value and agrees on the free variables is the filled-in one.
@@ -170,7 +173,7 @@ module _ (n : ℕ) (st : List ℕ) (cs : List (List ℕ)) (set : Settled n st cs
       end_is u p = fill_only Live n a are_taken.order gates_within input_live meets given long (λ v q k. same v (is_free v q.0 k)) u p
         where
           is_free : (v : ℕ) → Root st v → NoOutput gates v → free st gates v ≡ true
-          is_free v r k = free_is st gates v r (is_false (is_output gates v) (λ e. let (g, i, q) = gate_of_output gates v e in k g i (sym q)))
+          is_free v r k = free_is st gates v r (false_from_ne_true (is_output gates v) (λ e. let (g, i, q) = gate_of_output gates v e in k g i (sym q)))
 
       pub through_is : (v : ℕ) → v ≤ n → through v ≡ a v
       unfolding through
@@ -189,8 +192,8 @@ module _ (n : ℕ) (st : List ℕ) (cs : List (List ℕ)) (set : Settled n st cs
     pub through_free : (v : ℕ) → free st gates v ≡ true → through v ≡ valued given v
     unfolding free root
     through_free v e =
-        on_root v (eqb-true _ _ (and_left (eqb (stands st v) (2 * v)) (not (is_output gates v)) e))
-        ∙ fill_other n gates gates_within given v (no_output gates v (not-true _ (and_right (eqb (stands st v) (2 * v)) (not (is_output gates v)) e)))
+        on_root v (eqb-true _ _ (and_parts (eqb (stands st v) (2 * v)) (not (is_output gates v)) e).0)
+        ∙ fill_other n gates gates_within given v (no_output gates v (not-true _ (and_parts (eqb (stands st v) (2 * v)) (not (is_output gates v)) e).1))
 
     -- What a fill writes, as an assignment.
     pub filled_value : (v : ℕ) → 1 ≤ v → v ≤ n → valued (filled n st gates given) v ≡ through v
@@ -201,7 +204,7 @@ module _ (n : ℕ) (st : List ℕ) (cs : List (List ℕ)) (set : Settled n st cs
         no h = omega arith
     filled_value (suc v) h k =
         let e : 1 + v ≡ suc v = omega arith in
-        ap (λ t. eqb t 1) (get_or-range (λ v. bit (holds end (stands st v))) 1 n v 0 (omega arith) ∙ ap (λ u. bit (holds end (stands st u))) e) ∙ bit_is (holds end (stands st (suc v)))
+        ap (λ t. eqb t 1) (get_or-map-range_with_len (λ v. bit (holds end (stands st v))) 1 n v (1 + v) 0 (omega arith) refl ∙ ap (λ u. bit (holds end (stands st u))) e) ∙ bit_is (holds end (stands st (suc v)))
 
     pub filled_alike : (ds : List (List ℕ)) → Inside n ds → satisfies_all (valued (filled n st gates given)) ds ≡ satisfies_all through ds
     filled_alike ds inside = alikes_hold (valued (filled n st gates given)) through ds (λ c i l k. let (lo, hi) = inside c i l k in filled_value (var l) lo hi)
@@ -210,10 +213,10 @@ module _ (n : ℕ) (st : List ℕ) (cs : List (List ℕ)) (set : Settled n st cs
     pub filled_row : (values : List ℕ) → length values ≡ n → ((v : ℕ) → Memᴰ v values → v ≤ 1) → ((v : ℕ) → 1 ≤ v → v ≤ n → through v ≡ valued values v) → filled n st gates given ≡ values
     unfolding filled fill_gates through valued
     filled_row values size bits same =
-        ext_get_or 0 (filled n st gates given) values (length-map (range 1 n) (λ v. bit (holds end (stands st v))) ∙ range_size 1 n ∙ sym size)
-        (λ i h. let k : i < n = rw (length-map (range 1 n) (λ v. bit (holds end (stands st v))) ∙ range_size 1 n) at h in
+        ext_get_or 0 (filled n st gates given) values (length-map (range_with_len 1 n) (λ v. bit (holds end (stands st v))) ∙ length-range_with_len 1 n ∙ sym size)
+        (λ i h. let k : i < n = rw (length-map (range_with_len 1 n) (λ v. bit (holds end (stands st v))) ∙ length-range_with_len 1 n) at h in
         let e : 1 + i ≡ suc i = omega arith in
-        get_or-range (λ v. bit (holds end (stands st v))) 1 n i 0 k ∙ ap (λ u. bit (holds end (stands st u))) e ∙ ap bit (same (suc i) (omega arith) (omega arith))
+        get_or-map-range_with_len (λ v. bit (holds end (stands st v))) 1 n i (1 + i) 0 k refl ∙ ap (λ u. bit (holds end (stands st u))) e ∙ ap bit (same (suc i) (omega arith) (omega arith))
         ∙ bit_back (get_or values i 0) (bits (get_or values i 0) (get_or-mem values i 0 (omega arith))))
 
     -- Asking gives the filled-in value.

@@ -9,9 +9,9 @@ use mathlib.Core.Logic.{◌⊎◌, inl, inr, ⊎_elim}
 use native.Mathlib.Omega.{arith}
 use lib.Dec.{eqb, ltb}
 use borrow.Author.Tests.{eqb-true, eq-eqb, ne_eqb, lt-ltb, le-ltb}
-use Rattle.ways.specs.Ways.{every, keep}
+use Rattle.std.specs.List.{list_all, filter}
 use Rattle.ways.proofs.Bools.{clash_of}
-use Rattle.ways.proofs.Rows.{in_keep}
+use Rattle.ways.proofs.Rows.{mem-filter}
 use Rattle.ways.proofs.Members.{map-mem}
 use Rattle.tables.specs.Literal.{var, neg, opp}
 use Rattle.tables.proofs.Literals.{var_pos, var-neg, var_mono, var-opp, opp-opp, two_forms, neg_pos, neg-neg}
@@ -43,9 +43,9 @@ module _ (c : List ℕ) (o : ℕ) where
   unfolding others
   split_other l i = go (eqb l o) refl
     where
-      go : (b : Bool) → eqb l o ≡ b → (l ≡ o) ⊎ Memᴰ l (keep (λ x. not (eqb x o)) c)
+      go : (b : Bool) → eqb l o ≡ b → (l ≡ o) ⊎ Memᴰ l (filter (λ x. not (eqb x o)) c)
       go true e = inl (eqb-true l o e)
-      go false e = inr (in_keep (λ x. not (eqb x o)) c l i (ap not e))
+      go false e = inr (mem-filter (λ x. not (eqb x o)) c l i (ap not e))
 
   as_and_input : (l : ℕ) → Memᴰ l (others o c) → (x : ℕ) × Memᴰ x (and_inputs c o) × (var x ≡ var l)
   unfolding and_inputs
@@ -106,14 +106,14 @@ module _ (c : List ℕ) (o : ℕ) (i : Memᴰ o c) where
 -- A rising row without one of its elements, and that element put back.
 back_in : {xs : List ℕ} → Rising xs → (f : ℕ → ℕ) → ((x y : ℕ) → Memᴰ x xs → Memᴰ y xs → x < y → f x < f y) → (o : ℕ) → Memᴰ o xs
     → insert (f o) (map f (others o xs)) ≡ map f xs
-unfolding others keep insert
+unfolding others insert
 back_in nil f up o i = elim i [ ]
 back_in (cons {x = x} {xs = xs} h r) f up o (Memᴰ.head q) = rw (eq-eqb x o (sym q), all_kept xs o (λ j. no (h o j) q)) (front xs f (λ y j. up x y (Memᴰ.head refl) (Memᴰ.tail j) (h y j)) q)
   where
     no : x < o → o ≡ x → ⊥
     no a b = omega arith
 
-    all_kept : (ys : List ℕ) (o : ℕ) → (Memᴰ o ys → ⊥) → keep (λ x. not (eqb x o)) ys ≡ ys
+    all_kept : (ys : List ℕ) (o : ℕ) → (Memᴰ o ys → ⊥) → filter (λ x. not (eqb x o)) ys ≡ ys
     all_kept [] o h = refl
     all_kept (y ∷ ys) o h = rw (ne_eqb y o (λ e. h (Memᴰ.head (sym e))), all_kept ys o (λ i. h (Memᴰ.tail i)))
 
@@ -128,7 +128,7 @@ back_in (cons {x = x} {xs = xs} h r) f up o (Memᴰ.tail i) =
 -- Small facts: the signs of inputs, a literal from its variable and sign, opposites of opposites.
 pub signs_low : (ls : List ℕ) → signs ls < 3
 unfolding signs
-signs_low ls = go (every (λ l. not (neg l)) ls) (every neg ls)
+signs_low ls = go (list_all (λ l. not (neg l)) ls) (list_all neg ls)
   where
     go : (b c : Bool) → cond b 0 (cond c 1 2) < 3
     go true c = omega arith

@@ -8,8 +8,8 @@ use native.Mathlib.Omega.{arith}
 use lib.IntN.{ℤ}
 use lib.ListN.{length}
 use lib.Dec.{eqb, ltb}
-use Rattle.ways.specs.Ways.{every}
-use Rattle.ways.proofs.Rows.{every-not}
+use Rattle.std.specs.List.{list_all}
+use Rattle.ways.proofs.Rows.{list_all-not}
 use Rattle.tables.specs.Check.{checked}
 use Rattle.tables.specs.declared.Verdict.{Verdict}
 use Rattle.tables.specs.declared.Verdict.TheVariants.{Accepted, Refused}
@@ -41,9 +41,9 @@ module _ (n : ℕ) (t : List ℤ) (b : Book) (work room : ℕ) where
       checked n t ∷ work_short work ∷ book_long b ∷ held_bad n b ∷ contradiction (outcome_of n t b)
       ∷ refuse (ltb room (length (listed n (outcome_of n t b)))) 8 (length (listed n (outcome_of n t b))) ∷ []
 
-  held_range : held_bad n b ≡ Accepted → every (λ x. not (out_of_range n x)) (in_force b) ≡ true
+  held_range : held_bad n b ≡ Accepted → list_all (λ x. not (out_of_range n x)) (in_force b) ≡ true
   unfolding held_bad
-  held_range e = every-not (out_of_range n) (in_force b) ∙ ap not (refuse_accepts _ 5 0 e)
+  held_range e = list_all-not (out_of_range n) (in_force b) ∙ ap not (refuse_accepts _ 5 0 e)
 
   no_clash : contradiction (outcome_of n t b) ≡ Accepted → (st : List ℕ) × (cs : List (List ℕ)) × (outcome_of n t b ≡ settled (rounds_in (outcome_of n t b)) st cs)
   unfolding contradiction rounds_in

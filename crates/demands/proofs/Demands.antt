@@ -9,9 +9,11 @@ use lib.IntN.{ℤ}
 use lib.ListN.{length, get_or-eq_default}
 use lib.Dec.{ltb}
 use borrow.Author.Tests.{eq-eqb, ltb-true, ltb-false}
-use Rattle.ways.specs.Ways.{some, every, range, among}
-use Rattle.ways.proofs.Bools.{agree, and_left, and_right, and_both, is_false, never_both}
-use Rattle.ways.proofs.Rows.{every_all, all_every, in_some, keep_in}
+use Rattle.std.specs.List.{list_any, list_all, range_with_len}
+use Rattle.ways.specs.Ways.{among}
+use Rattle.std.proofs.lemmas.Bool.{and_from, and_parts, false_from_ne_true}
+use Rattle.ways.proofs.Bools.{agree, never_both}
+use Rattle.ways.proofs.Rows.{list_all-mem, mem-list_all, mem-list_any, filter-mem}
 use Rattle.ways.proofs.Members.{among-mem, mem-range, flat_mem, mem-among}
 use Rattle.tables.specs.Literal.{holds, valued}
 use Rattle.tables.specs.Clause.{satisfies, satisfies_all}
@@ -58,28 +60,28 @@ stands_beyond n st e u h = get_or-eq_default st (2 * u) (rw e (omega arith))
 
 module _ (n : ℕ) (st : List ℕ) (cs : List (List ℕ)) (set : Settled n st cs) (values : List ℕ) where
   -- Agreement on the variables 1 to n is agreement on all: 0 and what is beyond n stand for themselves.
-  all_agree : every (agrees st values) (range 1 n) ≡ true → Agrees (valued values) st
+  all_agree : list_all (agrees st values) (range_with_len 1 n) ≡ true → Agrees (valued values) st
   unfolding agrees
   all_agree e zero = ap (holds (valued values)) set.good.none ∙ holds_pos (valued values) 0
   all_agree e (suc v) = go (ltb n (suc v)) refl
     where
       go : (b : Bool) → ltb n (suc v) ≡ b → holds (valued values) (stands st (suc v)) ≡ valued values (suc v)
       go true h = ap (holds (valued values)) (stands_beyond n st set.good.size (suc v) (ltb-true n (suc v) h)) ∙ holds_pos (valued values) (suc v)
-      go false h = sym (of_beq _ _ (every_all (agrees st values) (range 1 n) e (suc v) (mem-range 1 n (suc v) (omega arith) (let k = ltb-false n (suc v) h in omega arith))))
+      go false h = sym (of_beq _ _ (list_all-mem (agrees st values) (range_with_len 1 n) e (suc v) (mem-range 1 n (suc v) (omega arith) (let k = ltb-false n (suc v) h in omega arith))))
 
-  agree_all : Agrees (valued values) st → every (agrees st values) (range 1 n) ≡ true
+  agree_all : Agrees (valued values) st → list_all (agrees st values) (range_with_len 1 n) ≡ true
   unfolding agrees
-  agree_all h = all_every (agrees st values) (range 1 n) (λ v i. beq_of _ _ (sym (h v)))
+  agree_all h = mem-list_all (agrees st values) (range_with_len 1 n) (λ v i. beq_of _ _ (sym (h v)))
 
 pub settling_exact : SettlingExact
 settling_exact n t pins r st cs s values =
     let ends = settled_ends n t pins s.lent r st cs s.comes in
     let means = settled_means n t pins s.lent r st cs s.comes (valued values) (zero_value values) in
     agree _ _
-    (λ e. let (p, q) = means.0 e in and_both (satisfies_all (valued values) cs) (every (agrees st values) (range 1 n)) p (agree_all n st cs ends.2 values q))
+    (λ e. let (p, q) = means.0 e in and_from (satisfies_all (valued values) cs) (list_all (agrees st values) (range_with_len 1 n)) p (agree_all n st cs ends.2 values q))
     (λ e. means.1 (
-      and_left (satisfies_all (valued values) cs) (every (agrees st values) (range 1 n)) e,
-      all_agree n st cs ends.2 values (and_right (satisfies_all (valued values) cs) (every (agrees st values) (range 1 n)) e),
+      (and_parts (satisfies_all (valued values) cs) (list_all (agrees st values) (range_with_len 1 n)) e).0,
+      all_agree n st cs ends.2 values (and_parts (satisfies_all (valued values) cs) (list_all (agrees st values) (range_with_len 1 n)) e).1,
     ))
 
 pub rounds_bounded : RoundsBounded
@@ -131,7 +133,7 @@ pattern_says n t pins r st cs s g i a =
 pub give_back_exact : GiveBack
 unfolding taken in_pattern
 give_back_exact n t pins r st cs s c =
-    (give_back gs cs (λ g i. (k.valid g i).there) (λ g i. (k.valid g i).written) c, is_false _ apart)
+    (give_back gs cs (λ g i. (k.valid g i).there) (λ g i. (k.valid g i).written) c, false_from_ne_true _ apart)
   where
     gs : List Gate
     gs = taken_by (allowed n) n cs
@@ -141,12 +143,12 @@ give_back_exact n t pins r st cs s c =
 
     apart : (among c (flat_map written_out gs) && among c (residue gs cs)) ≡ true → ⊥
     apart e =
-        let (g, i, j) = flat_mem written_out gs c (among-mem c _ (and_left (among c (flat_map written_out gs)) (among c (residue gs cs)) e)) in
-        let left = among-mem c (residue gs cs) (and_right (among c (flat_map written_out gs)) (among c (residue gs cs)) e) in
-        never_both (in_some (λ h. among c h.pattern) gs g i (mem-among c g.pattern (subst (Memᴰ c) (k.valid g i).written j)))
+        let (g, i, j) = flat_mem written_out gs c (among-mem c _ (and_parts (among c (flat_map written_out gs)) (among c (residue gs cs)) e).0) in
+        let left = among-mem c (residue gs cs) (and_parts (among c (flat_map written_out gs)) (among c (residue gs cs)) e).1 in
+        never_both (mem-list_any (λ h. among c h.pattern) gs g i (mem-among c g.pattern (subst (Memᴰ c) (k.valid g i).written j)))
         (apart_of (residue_apart gs cs (λ g i. (k.valid g i).there) (λ g i. (k.valid g i).written) c left))
       where
-        apart_of : in_pattern gs c ≡ false → some (λ h. among c h.pattern) gs ≡ false
+        apart_of : in_pattern gs c ≡ false → list_any (λ h. among c h.pattern) gs ≡ false
         apart_of q = q
 
 -- Demand 3.
@@ -159,7 +161,7 @@ module _ (n : ℕ) (t pins : List ℤ) (r : ℕ) (st : List ℕ) (cs : List (Lis
 
   residue_inside : Inside n (residue (taken_by (allowed n) n cs) cs)
   unfolding residue
-  residue_inside c i l j = settled_inside n st cs k (allowed n) (strict n) c (keep_in _ cs c i).0 l j
+  residue_inside c i l j = settled_inside n st cs k (allowed n) (strict n) c (filter-mem _ cs c i).0 l j
 
   plan_exact : satisfies_all plan (pinned t pins) ≡ satisfies_all plan (residue (taken_by (allowed n) n cs) cs)
   plan_exact =
@@ -183,7 +185,7 @@ all_meet : (n : ℕ) (st : List ℕ) (cs : List (List ℕ)) (k : Settled n st cs
 unfolding satisfies_all found
 all_meet n st cs k a e g i =
     let v = (are_taken n st cs k (allowed n) (strict n)).valid g i in
-    (v.meets a).0 (all_every (satisfies a) g.pattern (λ c j. every_all (satisfies a) cs e c (among-mem c cs (every_all _ g.pattern v.there c j))))
+    (v.meets a).0 (mem-list_all (satisfies a) g.pattern (λ c j. list_all-mem (satisfies a) cs e c (among-mem c cs (list_all-mem _ g.pattern v.there c j))))
 
 pub own_filling : OwnFilling
 unfolding taken
@@ -194,7 +196,7 @@ own_filling n t pins r st cs s plan size bits e given long same =
     (λ v lo hi. through_is n st cs k (allowed n) (strict n) given long (valued plan) (zero_value plan) agreed (all_meet n st cs k (valued plan) holds_settled) same v hi)
 
 pub none_possible : NonePossible
-none_possible n t pins r h e values = is_false _ (impossible_means n t pins h r e (valued values) (zero_value values))
+none_possible n t pins r h e values = false_from_ne_true _ (impossible_means n t pins h r e (valued values) (zero_value values))
 
 pub asked_is_filled : AskedIsFilled
 unfolding taken

@@ -10,8 +10,9 @@ use lib.ListN.{length, take, length-set, length-replicate, length-append}
 use lib.Seq.{length-take-le, take-suc-set, take-set-le, take-take, take-append_seam}
 use lib.Dec.{eqb, leb, ltb}
 use borrow.Author.Tests.{eqb-false, ne_eqb, leb-false, le-ltb}
-use Rattle.ways.specs.Ways.{run}
-use Rattle.ways.proofs.Runs.{run_keeps, run-append}
+use Rattle.std.specs.List.{fold}
+use Rattle.std.proofs.lemmas.List.Sums.{fold-append}
+use Rattle.ways.proofs.Runs.{fold_keeps}
 use Rattle.tables.specs.declared.Verdict.{Verdict}
 use Rattle.tables.specs.declared.Verdict.TheVariants.{Accepted, Refused}
 use Rattle.rules.specs.Pins.{in_force, empty_book, with_pin, without_last, take_back}
@@ -90,7 +91,7 @@ start_held = record { same = refl; count = refl; few = omega arith; whole = leng
 
 night_held : (ms : List Move) → Held (after ms)
 unfolding after
-night_held ms = run_keeps move Held ms (λ d m i h. step_held d m h) opening start_held
+night_held ms = fold_keeps move Held ms (λ d m i h. step_held d m h) opening start_held
 
 pub stack_held : StackHeld
 stack_held ms = (night_held ms).same
@@ -150,13 +151,13 @@ unfolding move answer stacked
 back_stack d e = rw e
 
 pub take_back_undoes : TakeBackUndoes
-unfolding after run
+unfolding after
 take_back_undoes ms n t work x e =
-    ap (λ (d : Desk). d.stack) (run-append move opening ms (put n t work x ∷ back ∷ []))
+    ap (λ (d : Desk). d.stack) (fold-append move opening ms (put n t work x ∷ back ∷ []))
     ∙ back_stack d' (back_accepts d'.book (λ z. no (h.count ∙ ap length on) z) h.few) ∙ ap (λ s. take (length s - 1) s) on ∙ off_again d.stack x
   where
     d : Desk
-    d = run move opening ms
+    d = fold move opening ms
 
     d' : Desk
     d' = move d (put n t work x)

@@ -9,8 +9,8 @@ use mathlib.Core.Logic.{⊎_elim, ◌↔◌}
 use lib.IntN.{ℤ}
 use lib.Dec.{eqb, ltb}
 use borrow.Author.Tests.{eqb-false, ltb-false, not-true}
-use Rattle.ways.proofs.Bools.{or_none}
-use Rattle.ways.proofs.Rows.{every_all}
+use Rattle.std.proofs.lemmas.Bool.{or_parts}
+use Rattle.ways.proofs.Rows.{list_all-mem}
 use Rattle.ways.proofs.Members.{map-mem}
 use Rattle.tables.specs.Literal.{literal, var}
 use Rattle.tables.specs.Clause.{clauses, satisfies_all}
@@ -25,7 +25,7 @@ use Rattle.demands.specs.Evening.{Lent}
 pin_inside : (n : ℕ) (x : ℤ) → out_of_range n x ≡ false → (1 ≤ var (literal x)) × (var (literal x) ≤ n)
 unfolding out_of_range
 pin_inside n x e =
-    let (p, q) = or_none (eqb (literal x) 0) (ltb n (var (literal x))) e in
+    let (p, q) = or_parts (eqb (literal x) 0) (ltb n (var (literal x))) e in
     (var_one (literal x) (eqb-false (literal x) 0 p) (literal_one x), ltb-false n (var (literal x)) q)
 
 -- The table with its pins speaks of the variables 1 to n.
@@ -36,7 +36,7 @@ lent_inside n t pins h c i l k =
     (λ j. accepted_inside n t h.good c j l k)
     (λ j. let (x, o, q) = map-mem (λ p. literal p ∷ []) pins c j in
     subst (λ y. (1 ≤ var y) × (var y ≤ n)) (sym (Memᴰ.eq_of_singleton (subst (Memᴰ l) q k)))
-    (pin_inside n x (not-true (out_of_range n x) (every_all (λ x. not (out_of_range n x)) pins h.in_range x o))))
+    (pin_inside n x (not-true (out_of_range n x) (list_all-mem (λ x. not (out_of_range n x)) pins h.in_range x o))))
     (Memᴰ.append_cases (clauses t) i)
 
 module _ (n : ℕ) (t pins : List ℤ) (h : Lent n t pins) where

@@ -3,7 +3,8 @@
 use Rattle.std.specs.Prelude.{ℕ, ◌+◌, ◌≤◌, ◌<◌, ◌≡◌, Bool, true, false, ◌&&◌, ℤ, length, get_or}
 use Rattle.std.specs.Bool.{beq}
 use mathlib.Core.List.{List, ◌++◌, flat_map, Memᴰ}
-use Rattle.ways.specs.Ways.{every, keep, range, among}
+use Rattle.std.specs.List.{list_all, filter, range_with_len}
+use Rattle.ways.specs.Ways.{among}
 use Rattle.tables.specs.Literal.{var, holds, valued}
 use Rattle.tables.specs.Clause.{satisfies_all}
 use Rattle.rules.specs.Pairs.{stands, fixed, root, linked}
@@ -24,7 +25,7 @@ agrees st values v = beq (valued values v) (holds (valued values) (stands st v))
 abbrev pub SettlingExact : Type 0
 SettlingExact =
     (n : ℕ) (t pins : List ℤ) (r : ℕ) (st : List ℕ) (cs : List (List ℕ)) → Settles n t pins r st cs
-    → (values : List ℕ) → satisfies_all (valued values) (pinned t pins) ≡ (satisfies_all (valued values) cs && every (agrees st values) (range 1 n))
+    → (values : List ℕ) → satisfies_all (valued values) (pinned t pins) ≡ (satisfies_all (valued values) cs && list_all (agrees st values) (range_with_len 1 n))
 
 -- THE ROUNDS are at least 1 and at most n + 1, also where they end in a contradiction.
 abbrev pub RoundsBounded : Type 0
@@ -60,7 +61,7 @@ LevelsRise =
 abbrev pub NoneShared : Type 0
 NoneShared =
     (n : ℕ) (t pins : List ℤ) (r : ℕ) (st : List ℕ) (cs : List (List ℕ)) → Settles n t pins r st cs
-    → (c : List ℕ) → length (keep (λ g. among c g.pattern) (taken n cs)) ≤ 1
+    → (c : List ℕ) → length (filter (λ g. among c g.pattern) (taken n cs)) ≤ 1
 
 -- A GATE'S PATTERN SAYS WHAT THE GATE SAYS: it is satisfied exactly when the output has the kind's value of the inputs.
 abbrev pub PatternSays : Type 0

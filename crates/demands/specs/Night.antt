@@ -1,6 +1,6 @@
 -- A night at the desk: any run of pins and take-backs from an empty book, beside a plain stack of the accepted pins.
 use Rattle.std.specs.Prelude.{ℕ, ◌-◌, ◌≡◌, List, [], ◌∷◌, ◌++◌, length, take, ℤ}
-use Rattle.ways.specs.Ways.{run}
+use Rattle.std.specs.List.{fold}
 use Rattle.tables.specs.declared.Verdict.{Verdict}
 use Rattle.tables.specs.declared.Verdict.TheVariants.{Accepted, Refused}
 use Rattle.rules.specs.Pins.{in_force, empty_book, take_back}
@@ -35,7 +35,7 @@ unfoldable pub move : Desk → Move → Desk
 move d m = record { book = (answer d.book m).book; stack = stacked d.stack m (answer d.book m).verdict }
 
 unfoldable pub after : List Move → Desk
-after ms = run move opening ms
+after ms = fold move opening ms
 
 -- THE STACK: after any run the pins in force are those of the stack.
 abbrev pub StackHeld : Type 0

@@ -1,7 +1,7 @@
 -- What each public call answers, for every input, and what the lent memory holds afterwards: the refusals in 01's order,
 -- each with its number and place. The calls on clause text stand beside its definitions.
 use Rattle.std.specs.Prelude.{ℕ, ◌-◌, Bool, true, false, ◌&&◌, ◌||◌, List, [], ◌∷◌, ◌++◌, ℤ, pos, length, get_or, replicate, eqb, leb, ltb}
-use Rattle.ways.specs.Ways.{some, keep, range}
+use Rattle.std.specs.List.{list_any, filter, range_with_len}
 use Rattle.tables.specs.Sizes.{most_pins, work_room}
 use Rattle.tables.specs.Check.{checked}
 use Rattle.tables.specs.declared.Verdict.{Verdict}
@@ -40,7 +40,7 @@ unfoldable pub book_long : Book → Verdict
 book_long b = refuse (ltb most_pins b.held) 6 most_pins
 
 unfoldable pub held_bad : ℕ → Book → Verdict
-held_bad n b = refuse (some (out_of_range n) (in_force b)) 5 0
+held_bad n b = refuse (list_any (out_of_range n) (in_force b)) 5 0
 
 -- "4": the outcome of the table with the pins in force.
 unfoldable pub outcome_of : ℕ → List ℤ → Book → Outcome
@@ -95,7 +95,7 @@ build_listing n t b work buffer = leaves (build_verdict n t b work (length buffe
 
 -- "10 | value of a free variable neither 0 nor 1 | the lowest such variable"
 unfoldable pub bad_values : ℕ → Outcome → List ℕ → List ℕ
-bad_values n o given = keep (λ v. free (stands_in o) (gates_in n o) v && ltb 1 (get_or given (v - 1) 0)) (range 1 n)
+bad_values n o given = filter (λ v. free (stands_in o) (gates_in n o) v && ltb 1 (get_or given (v - 1) 0)) (range_with_len 1 n)
 
 unfoldable pub bad_value : List ℕ → Verdict
 bad_value vs = refuse (ltb 0 (length vs)) 10 (get_or vs 0 0)

@@ -5,7 +5,9 @@ use Rattle.std.specs.Prelude.{ℕ, ◌≡◌, refl, ℤ, pos, negsuc}
 use Prim.Native.String.{String}
 use mathlib.Core.Bool.{Bool, true, false}
 use mathlib.Core.List.{List, [], ◌∷◌, ◌++◌}
-use Rattle.ways.specs.Ways.{run, iter, some, every, oddly, keep, range, has, same, among}
+use Rattle.std.specs.List.{fold, list_any, list_all, filter, range_with_len}
+use Rattle.std.specs.Fn.{iterate}
+use Rattle.ways.specs.Ways.{oddly, has, same, among}
 use Rattle.ways.specs.Letters.{letters}
 use Rattle.tables.specs.Sizes.{most_bytes, work_room}
 use Rattle.tables.specs.Literal.{literal, var, neg, entry, opp, holds, valued}
@@ -151,6 +153,6 @@ pub right : Evening → Bool
 right (lent n t ms prints) = same (shown n t empty_book ++ night n t empty_book ms) (letters prints)
 right (text source prints) = same (program (letters source)) (letters prints)
 
-pub all_right : every right evenings ≡ true
-unfolding run iter some every oddly keep range has same among letters evenings right night moved answers shown literal var neg entry opp holds valued clauses_from clauses void satisfies satisfies_all check_from checked front blank solid feed before tokens_from digits natural plain minus number under remarks no_more size_c size_v word_cnf word_p header_at header fault body_from said entry_of behind counted judged verdict roomed reading row_by row_after digits_of decimal signed marked forces force_at force_in pass forced clash empty contradicts insert tidy_step tidy add clean_step clean pairs stands replace alone starting give_way meet join leaders torn fixed root linked paired cleaned round after rounds outcome pinned kinds no_kind kind_row signs and_kind parity_kind rule others side and_inputs and_form signings odd group parity first_of anchors found candidates touched depend_step dependents is_output allowed place take_first take_at taken_by taken in_pattern residue free highest level_step levels bit fill_step fill_gates filled ask_root asked line line_b line_f line_l input_field line_g gates_at lines_g line_v line_r listing line_x in_force empty_book out_of_range with_pin without_last take_back refuse first_refusal work_short book_long held_bad outcome_of contradiction rounds_in stands_in gates_in listed leaves wiped build_verdict built_as build build_listing bad_values bad_value fill_verdict fill_values ask_verdict asked_as ask pin_verdict booked_as pin verdict_numbers built_numbers asked_numbers printed program_on program mathlib.Core.List.flat_map mathlib.Core.Bool.xor
+pub all_right : list_all right evenings ≡ true
+unfolding letters evenings right night moved answers shown literal var neg entry opp holds valued clauses_from clauses void satisfies satisfies_all check_from checked front blank solid feed before tokens_from digits natural plain minus number under remarks no_more size_c size_v word_cnf word_p header_at header fault body_from said entry_of behind counted judged verdict roomed reading row_by row_after digits_of decimal signed marked forces force_at force_in pass forced clash empty contradicts insert tidy_step tidy add clean_step clean pairs stands replace alone starting give_way meet join leaders torn fixed root linked paired cleaned round after rounds outcome pinned kinds no_kind kind_row signs and_kind parity_kind rule others side and_inputs and_form signings odd group parity first_of anchors found candidates touched depend_step dependents is_output allowed place take_first take_at taken_by taken in_pattern residue free highest level_step levels bit fill_step fill_gates filled ask_root asked line line_b line_f line_l input_field line_g gates_at lines_g line_v line_r listing line_x in_force empty_book out_of_range with_pin without_last take_back refuse first_refusal work_short book_long held_bad outcome_of contradiction rounds_in stands_in gates_in listed leaves wiped build_verdict built_as build build_listing bad_values bad_value fill_verdict fill_values ask_verdict asked_as ask pin_verdict booked_as pin verdict_numbers built_numbers asked_numbers printed program_on program mathlib.Core.List.flat_map mathlib.Core.Bool.xor
 all_right = refl

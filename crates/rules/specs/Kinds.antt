@@ -1,7 +1,8 @@
 -- The kind table, and each kind's rule of value.
 use Rattle.std.specs.Prelude.{ℕ, ◌+◌, Bool, cond, not, List, [], ◌∷◌, get_or, eqb}
 use Prim.Native.String.{String}
-use Rattle.ways.specs.Ways.{some, every, oddly}
+use Rattle.std.specs.List.{list_any, list_all}
+use Rattle.ways.specs.Ways.{oddly}
 use Rattle.tables.specs.Literal.{var, neg, holds}
 
 -- "The kind table has one row for each of the eight kinds: name, output sign, input signs, least and greatest number of
@@ -33,7 +34,7 @@ kind_row k = get_or kinds k no_kind
 
 -- The signs of a row of literals, as the table has them.
 unfoldable pub signs : List ℕ → ℕ
-signs ls = cond (every (λ l. not (neg l)) ls) 0 (cond (every neg ls) 1 2)
+signs ls = cond (list_all (λ l. not (neg l)) ls) 0 (cond (list_all neg ls) 1 2)
 
 -- "With o = v: `and` if all ai are positive, `nor` if all are negative, else `cg`. With o = −v: .. `or` if all inputs are
 -- positive, `nand` if all are negative, else `dg`."
@@ -49,11 +50,11 @@ parity_kind odd = cond odd 6 7
 unfoldable pub rule : ℕ → (ℕ → Bool) → List ℕ → Bool
 rule k a inputs =
     let value : ℕ → Bool = λ l. a (var l) in
-    cond (eqb k 0) (every value inputs)
-    (cond (eqb k 1) (not (some value inputs))
-    (cond (eqb k 2) (every (holds a) inputs)
-    (cond (eqb k 3) (some value inputs)
-    (cond (eqb k 4) (not (every value inputs))
-    (cond (eqb k 5) (some (holds a) inputs)
+    cond (eqb k 0) (list_all value inputs)
+    (cond (eqb k 1) (not (list_any value inputs))
+    (cond (eqb k 2) (list_all (holds a) inputs)
+    (cond (eqb k 3) (list_any value inputs)
+    (cond (eqb k 4) (not (list_all value inputs))
+    (cond (eqb k 5) (list_any (holds a) inputs)
     (cond (eqb k 6) (oddly value inputs)
     (not (oddly value inputs))))))))

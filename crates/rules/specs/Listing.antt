@@ -2,7 +2,7 @@
 use Rattle.std.specs.Prelude.{ℕ, Bool, cond, ◌&&◌, length, get_or, eqb}
 use Prim.Native.String.{String}
 use mathlib.Core.List.{List, [], ◌∷◌, ◌++◌, map, flat_map}
-use Rattle.ways.specs.Ways.{keep, range}
+use Rattle.std.specs.List.{filter, range_with_len}
 use Rattle.ways.specs.Letters.{letters}
 use Rattle.tables.specs.Literal.{var}
 use Rattle.texts.specs.Decimal.{decimal, signed}
@@ -18,7 +18,7 @@ line tag fields = letters tag ++ (flat_map (λ f. letters "\t" ++ f) fields ++ l
 -- "B: variables, rounds, fixed, linked, gates, free, residue clauses."
 unfoldable pub line_b : ℕ → ℕ → List ℕ → List (List ℕ) → List Gate → List ℕ
 line_b n r st cs gs =
-    let count : (ℕ → Bool) → List ℕ = λ test. decimal (length (keep test (range 1 n))) in
+    let count : (ℕ → Bool) → List ℕ = λ test. decimal (length (filter test (range_with_len 1 n))) in
     line "B" (decimal n ∷ decimal r ∷ count (fixed st) ∷ count (linked st) ∷ decimal (length gs) ∷ count (free st gs) ∷ decimal (length (residue gs cs)) ∷ [])
 
 -- "F: variable, 0 or 1; rising. L: variable, root literal; rising."
@@ -37,10 +37,10 @@ line_g level g = line "G" (decimal level ∷ letters (kind_row g.kind).name ∷ 
 
 -- "by level, then output": level after level, and on each the gates by rising output.
 unfoldable pub gates_at : ℕ → List Gate → ℕ → ℕ → List Gate
-gates_at n gs level v = keep (λ g. eqb g.output v && eqb (get_or (levels n gs) v 0) level) gs
+gates_at n gs level v = filter (λ g. eqb g.output v && eqb (get_or (levels n gs) v 0) level) gs
 
 unfoldable pub lines_g : ℕ → List Gate → List ℕ
-lines_g n gs = flat_map (λ level. flat_map (λ v. flat_map (line_g level) (gates_at n gs level v)) (range 1 n)) (range 1 (length gs))
+lines_g n gs = flat_map (λ level. flat_map (λ v. flat_map (line_g level) (gates_at n gs level v)) (range_with_len 1 n)) (range_with_len 1 (length gs))
 
 -- "V: free variable; rising. R: a residue clause's literals."
 unfoldable pub line_v : ℕ → List ℕ
@@ -53,10 +53,10 @@ line_r c = line "R" (map signed c)
 unfoldable pub listing : ℕ → ℕ → List ℕ → List (List ℕ) → List Gate → List ℕ
 listing n r st cs gs =
     line_b n r st cs gs
-    ++ flat_map (line_f st) (keep (fixed st) (range 1 n))
-    ++ flat_map (line_l st) (keep (linked st) (range 1 n))
+    ++ flat_map (line_f st) (filter (fixed st) (range_with_len 1 n))
+    ++ flat_map (line_l st) (filter (linked st) (range_with_len 1 n))
     ++ lines_g n gs
-    ++ flat_map line_v (keep (free st gs) (range 1 n))
+    ++ flat_map line_v (filter (free st gs) (range_with_len 1 n))
     ++ flat_map line_r (residue gs cs)
 
 -- "or one such line with `X`, number, place"

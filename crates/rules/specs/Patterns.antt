@@ -1,6 +1,7 @@
 -- And-forms and parity groups: the patterns of clauses that say what a gate says.
 use Rattle.std.specs.Prelude.{ℕ, ◌+◌, ◌*◌, Bool, true, false, cond, not, ◌&&◌, List, [], ◌∷◌, ◌++◌, map, length, eqb, ltb}
-use Rattle.ways.specs.Ways.{every, oddly, keep, same, among}
+use Rattle.std.specs.List.{list_all, filter}
+use Rattle.ways.specs.Ways.{oddly, same, among}
 use Rattle.tables.specs.Literal.{var, neg, opp}
 use Rattle.rules.specs.Clean.{insert}
 use Rattle.rules.specs.Kinds.{and_kind, parity_kind}
@@ -13,7 +14,7 @@ pub record Gate : Type 0 where
   pub pattern : List (List ℕ)
 
 unfoldable pub others : ℕ → List ℕ → List ℕ
-others o c = keep (λ x. not (eqb x o)) c
+others o c = filter (λ x. not (eqb x o)) c
 
 -- "And-form. For a literal o and literals a1..am, m at least 2: the anchor (o −a1 .. −am) and every (−o ai)." x is the −ai
 -- of the anchor.
@@ -53,7 +54,7 @@ anchors cs c = ltb (length c) 6 && same (first_of (group c) cs) c
 
 -- All of a gate's clauses are in the table.
 unfoldable pub found : List (List ℕ) → Gate → Bool
-found cs g = every (λ c. among c cs) g.pattern
+found cs g = list_all (λ c. among c cs) g.pattern
 
 -- "each gate written out again as clauses": from its kind, output and inputs alone. The output literal is positive for the
 -- kinds and, nor, cg, and negative for or, nand, dg; with it the anchor has the opposites of the ai.

@@ -1,6 +1,6 @@
 -- The rounds, their count and what they leave.
 use Rattle.std.specs.Prelude.{ℕ, zero, suc, ◌+◌, cond, List, [], ◌∷◌, ◌++◌, map, ℤ, length, eqb}
-use Rattle.ways.specs.Ways.{some}
+use Rattle.std.specs.List.{list_any}
 use Rattle.tables.specs.Literal.{literal}
 use Rattle.tables.specs.Clause.{clauses}
 use Rattle.rules.specs.Forced.{forced, contradicts}
@@ -18,7 +18,7 @@ pub data Round : Type 0 where
 unfoldable pub paired : List ℕ → List ℕ → List (List ℕ) → List (List ℕ) → Round
 paired st s cs ps =
     cond (eqb (length ps) 0) (ended (map (replace s) st) cs)
-    (cond (some (torn s) ps) stuck (goes_on (map (replace s) st) (map (map (replace s)) cs)))
+    (cond (list_any (torn s) ps) stuck (goes_on (map (replace s) st) (map (map (replace s)) cs)))
 
 unfoldable pub cleaned : ℕ → List ℕ → List ℕ → List (List ℕ) → Round
 cleaned n st m cs = paired st (leaders n m (pairs cs)) cs (pairs cs)

@@ -8,12 +8,16 @@ use native.Mathlib.Omega.{arith}
 use lib.ListN.{length, get_or, length-map}
 use lib.Dec.{eqb, ltb, eqb-suc-zero}
 use borrow.Author.Tests.{eqb-true, eqb-false, eq-eqb}
-use Rattle.ways.specs.Ways.{run, some, keep, range, among}
-use Rattle.ways.proofs.Bools.{clash_of, and_left}
-use Rattle.ways.proofs.Runs.{run_keeps}
-use Rattle.ways.proofs.Rows.{keep_in}
-use Rattle.ways.proofs.Members.{mem-range, range_size, get_or-mem, get_or-map}
-use Rattle.ways.proofs.Counts.{keep-le, count_less}
+use Rattle.std.specs.List.{fold, list_any, filter, range_with_len}
+use Rattle.ways.specs.Ways.{among}
+use Rattle.std.proofs.lemmas.Bool.{and_parts}
+use Rattle.std.proofs.lemmas.List.{get_or-map}
+use Rattle.std.proofs.lemmas.List.FromFn.{length-range_with_len}
+use Rattle.ways.proofs.Bools.{clash_of}
+use Rattle.ways.proofs.Runs.{fold_keeps}
+use Rattle.ways.proofs.Rows.{filter-mem}
+use Rattle.ways.proofs.Members.{mem-range, get_or-mem}
+use Rattle.ways.proofs.Counts.{filter-le, count_less}
 use Rattle.tables.specs.Literal.{var, opp}
 use Rattle.tables.proofs.Literals.{var_pos, var-opp, same_var}
 use Rattle.tables.proofs.Checked.{Inside}
@@ -81,10 +85,10 @@ meet_size p q s = go (eqb (var p) (var q)) (ltb (var p) (var q))
 
 -- the variables of a pair end in one class
 run_joins : (t c : List ℕ) (ps : List (List ℕ)) → var (get_or c 0 0) < length t → var (get_or c 1 0) < length t
-    → Same (run join t (c ∷ ps)) (var (get_or c 0 0)) (var (get_or c 1 0))
-unfolding run join
+    → Same (fold join t (c ∷ ps)) (var (get_or c 0 0)) (var (get_or c 1 0))
+unfolding join
 run_joins t c ps lx ly =
-    (run_keeps join (λ r. (length r ≡ length t) × Same r u v) ps
+    (fold_keeps join (λ r. (length r ≡ length t) × Same r u v) ps
     (λ r d i h. let f : length (join r d) ≡ length t = meet_size _ _ r ∙ h.0 in
     (f, meet_same u v r (rw h.0 lx) (rw h.0 ly) (replace r (get_or d 0 0)) (opp (replace r (get_or d 1 0))) h.1))
     (join t c) (meet_size _ _ t, meet_joins u v t lx ly (replace t (get_or c 0 0)) (opp (replace t (get_or c 1 0))) (var-replace t (get_or c 0 0)) (var-opp (replace t (get_or c 1 0)) ∙ var-replace t (get_or c 1 0)))).1
@@ -109,7 +113,7 @@ differ [] l d e = no l
 
 -- how many roots there are
 pub roots : ℕ → List ℕ → ℕ
-roots n st = length (keep (root st) (range 1 n))
+roots n st = length (filter (root st) (range_with_len 1 n))
 
 root_is : (st : List ℕ) (v : ℕ) → root st v ≡ true → Root st v
 unfolding root
@@ -133,7 +137,7 @@ module _ (n : ℕ) (st : List ℕ) (cs : List (List ℕ)) (good : Good n st cs) 
   gone : (z : ℕ) → 1 ≤ z → z ≤ n → Root st z → root (s n st cs good) z ≡ false → roots n (st' n st cs good) < roots n st
   unfolding roots
   gone z lo hi r e =
-      count_less (root st) (root (st' n st cs good)) (λ v h. is_root st v (was_root v (root_is _ v h))) (range 1 n) z (mem-range 1 n z lo (omega arith)) (is_root st z r)
+      count_less (root st) (root (st' n st cs good)) (λ v h. is_root st v (was_root v (root_is _ v h))) (range_with_len 1 n) z (mem-range 1 n z lo (omega arith)) (is_root st z r)
       (no (root (st' n st cs good) z) refl)
     where
       no : (b : Bool) → root (st' n st cs good) z ≡ b → b ≡ false
@@ -154,10 +158,10 @@ module _ (n : ℕ) (st : List ℕ) (cs : List (List ℕ)) (good : Good n st cs) 
       y = get_or c 1 0
 
       kept : Memᴰ c (ds n st cs good) × ((eqb (length c) 2 && among (map opp c) (ds n st cs good)) ≡ true)
-      kept = keep_in _ (ds n st cs good) c (subst (Memᴰ c) (sym e) (Memᴰ.head refl))
+      kept = filter-mem _ (ds n st cs good) c (subst (Memᴰ c) (sym e) (Memᴰ.head refl))
 
       two : length c ≡ 2
-      two = eqb-true _ _ (and_left (eqb (length c) 2) (among (map opp c) (ds n st cs good)) kept.1)
+      two = eqb-true _ _ (and_parts (eqb (length c) 2) (among (map opp c) (ds n st cs good)) kept.1).0
 
       ix : Memᴰ x c
       ix = get_or-mem c 0 0 (omega (arith, two))
@@ -175,7 +179,7 @@ module _ (n : ℕ) (st : List ℕ) (cs : List (List ℕ)) (good : Good n st cs) 
       size = sym (roots_inv n st cs good).size ∙ s_size n st cs good ∙ good.size
 
       same : Same S (var x) (var y)
-      same = subst (λ p. Same (run join (starting n (forced n cs)) p) (var x) (var y)) (sym e)
+      same = subst (λ p. Same (fold join (starting n (forced n cs)) p) (var x) (var y)) (sym e)
           (run_joins (starting n (forced n cs)) c ps (let h = lx.high in omega (arith, size)) (let h = ly.high in omega (arith, size)))
 
       go : (a : Bool) → root S (var x) ≡ a → (b : Bool) → root S (var y) ≡ b → roots n (st' n st cs good) < roots n st
@@ -199,7 +203,7 @@ module _ (n : ℕ) where
 
   round_leaves : (st : List ℕ) (cs : List (List ℕ)) → Good n st cs → Leaves st (round n st cs)
   unfolding round cleaned paired
-  round_leaves st cs good = go (contradicts n cs) (eqb (length P) 0) refl (some (torn S) P)
+  round_leaves st cs good = go (contradicts n cs) (eqb (length P) 0) refl (list_any (torn S) P)
     where
       D : List (List ℕ)
       D = ds n st cs good
@@ -251,7 +255,7 @@ module _ (n : ℕ) where
 
 roots_le : (n : ℕ) (st : List ℕ) → roots n st ≤ n
 unfolding roots
-roots_le n st = omega (arith, keep-le (root st) (range 1 n), range_size 1 n)
+roots_le n st = omega (arith, filter-le (root st) (range_with_len 1 n), length-range_with_len 1 n)
 
 -- the rounds of a table: at least 1, at most n + 1; what is settled is clean, speaks of roots and has no pair
 pub outcome_ends : (n : ℕ) (cs : List (List ℕ)) → Inside n cs → Ends n 1 (n + 1) (outcome n cs)

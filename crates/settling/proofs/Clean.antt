@@ -7,10 +7,13 @@ use mathlib.Core.List.{List, [], ◌∷◌, ◌++◌, Memᴰ}
 use mathlib.Core.Logic.{◌⊎◌, inl, inr, ⊎_elim}
 use lib.Dec.{eqb, ltb}
 use borrow.Author.Tests.{eqb-true, not-true}
-use Rattle.ways.specs.Ways.{some, every, among}
-use Rattle.ways.proofs.Bools.{or_cases, or_swap, or_twice, and_idle}
-use Rattle.ways.proofs.Runs.{run_keeps, run-every, run-some}
-use Rattle.ways.proofs.Rows.{every_all, every-append, some_in, in_some, none_of}
+use Rattle.std.specs.List.{list_any, list_all}
+use Rattle.ways.specs.Ways.{among}
+use Rattle.std.proofs.lemmas.Bool.{or_cases}
+use Rattle.std.proofs.lemmas.List.Folds.{list_all-append}
+use Rattle.ways.proofs.Bools.{or_swap, or_twice, and_idle}
+use Rattle.ways.proofs.Runs.{fold_keeps, fold-list_all, fold-list_any}
+use Rattle.ways.proofs.Rows.{list_all-mem, list_any-mem, mem-list_any, none_of}
 use Rattle.ways.proofs.Members.{among-mem}
 use Rattle.tables.specs.Literal.{opp, holds}
 use Rattle.tables.specs.Clause.{void, satisfies, satisfies_all}
@@ -22,20 +25,20 @@ use Rattle.settling.proofs.Forced.{Sound}
 
 module _ (a : ℕ → Bool) where
   pub insert_sat : (x : ℕ) (ys : List ℕ) → satisfies a (insert x ys) ≡ (holds a x || satisfies a ys)
-  unfolding insert satisfies some
+  unfolding insert satisfies
   insert_sat x [] = refl
   insert_sat x (y ∷ ys) = go (eqb x y) refl (ltb x y) (insert_sat x ys)
     where
-      go : (b : Bool) → eqb x y ≡ b → (l : Bool) → some (holds a) (insert x ys) ≡ (holds a x || some (holds a) ys)
-          → some (holds a) (cond b (y ∷ ys) (cond l (x ∷ y ∷ ys) (y ∷ insert x ys))) ≡ (holds a x || (holds a y || some (holds a) ys))
+      go : (b : Bool) → eqb x y ≡ b → (l : Bool) → list_any (holds a) (insert x ys) ≡ (holds a x || list_any (holds a) ys)
+          → list_any (holds a) (cond b (y ∷ ys) (cond l (x ∷ y ∷ ys) (y ∷ insert x ys))) ≡ (holds a x || (holds a y || list_any (holds a) ys))
       go true e l h = rw (eqb-true x y e) (or_twice (holds a y) _)
       go false e true h = refl
       go false e false h = rw h (or_swap (holds a y) (holds a x) _)
 
   module _ (m : List ℕ) (sound : Sound a m) where
-    marked_sat : (c : List ℕ) → some (marked m) c ≡ true → satisfies a c ≡ true
+    marked_sat : (c : List ℕ) → list_any (marked m) c ≡ true → satisfies a c ≡ true
     unfolding satisfies
-    marked_sat c e = let (x, i, h) = some_in (marked m) c e in in_some (holds a) c x i (sound x h)
+    marked_sat c e = let (x, i, h) = list_any-mem (marked m) c e in mem-list_any (holds a) c x i (sound x h)
 
     tidy_step_sat : (out : List ℕ) (x : ℕ) → satisfies a (tidy_step m out x) ≡ (satisfies a out || holds a x)
     unfolding tidy_step
@@ -46,29 +49,29 @@ module _ (a : ℕ → Bool) where
         go false e = insert_sat x out ∙ or_comm (holds a x) (satisfies a out)
 
     tidy_sat : (c : List ℕ) → satisfies a (tidy m c) ≡ satisfies a c
-    unfolding tidy satisfies some
-    tidy_sat c = run-some (tidy_step m) (satisfies a) (holds a) tidy_step_sat [] c
+    unfolding tidy satisfies
+    tidy_sat c = fold-list_any (tidy_step m) (satisfies a) (holds a) tidy_step_sat [] c
 
     add_sat : (out : List (List ℕ)) (c : List ℕ) → satisfies_all a (add out c) ≡ (satisfies_all a out && satisfies a c)
-    unfolding add satisfies_all every
+    unfolding add satisfies_all
     add_sat out c = go (among c out) refl
       where
         go : (b : Bool) → among c out ≡ b → satisfies_all a (cond b out (out ++ (c ∷ []))) ≡ (satisfies_all a out && satisfies a c)
-        go true e = sym (and_idle (satisfies_all a out) (satisfies a c) (λ h. every_all (satisfies a) out h c (among-mem c out e)))
-        go false e = every-append (satisfies a) out (c ∷ []) ∙ ap (λ t. every (satisfies a) out && t) (and-true (satisfies a c))
+        go true e = sym (and_idle (satisfies_all a out) (satisfies a c) (λ h. list_all-mem (satisfies a) out h c (among-mem c out e)))
+        go false e = list_all-append (satisfies a) out (c ∷ []) ∙ ap (λ t. list_all (satisfies a) out && t) (and-true (satisfies a c))
 
     step_sat : (out : List (List ℕ)) (c : List ℕ) → satisfies_all a (clean_step m out c) ≡ (satisfies_all a out && satisfies a c)
     unfolding clean_step
-    step_sat out c = go (void c || some (marked m) c) refl
+    step_sat out c = go (void c || list_any (marked m) c) refl
       where
-        go : (b : Bool) → (void c || some (marked m) c) ≡ b → satisfies_all a (cond b out (add out (tidy m c))) ≡ (satisfies_all a out && satisfies a c)
+        go : (b : Bool) → (void c || list_any (marked m) c) ≡ b → satisfies_all a (cond b out (add out (tidy m c))) ≡ (satisfies_all a out && satisfies a c)
         go true e = sym (and_idle (satisfies_all a out) (satisfies a c) (λ _. ⊎_elim (void-holds a c) (marked_sat c) (or_cases _ _ e)))
         go false e = add_sat out (tidy m c) ∙ ap (λ t. satisfies_all a out && t) (tidy_sat c)
 
     -- the cleaned clauses have the same models
     pub clean_sat : (cs : List (List ℕ)) → satisfies_all a (clean m cs) ≡ satisfies_all a cs
-    unfolding clean satisfies_all every
-    clean_sat cs = run-every (clean_step m) (satisfies_all a) (satisfies a) step_sat [] cs
+    unfolding clean satisfies_all
+    clean_sat cs = fold-list_all (clean_step m) (satisfies_all a) (satisfies a) step_sat [] cs
 
 -- the literals of the cleaned clauses were there, and neither they nor their opposites are forced
 pub insert_in : (x : ℕ) (ys : List ℕ) (z : ℕ) → Memᴰ z (insert x ys) → (z ≡ x) ⊎ Memᴰ z ys
@@ -90,7 +93,7 @@ pub record Kept (m : List ℕ) (P : ℕ → Type 0) (l : ℕ) : Type 0 where
 module _ (m : List ℕ) (P : ℕ → Type 0) where
   tidy_all : (c : List ℕ) → ((l : ℕ) → Memᴰ l c → P l × (marked m l ≡ false)) → (l : ℕ) → Memᴰ l (tidy m c) → Kept m P l
   unfolding tidy tidy_step
-  tidy_all c h = run_keeps (tidy_step m) (λ out. (l : ℕ) → Memᴰ l out → Kept m P l) c (λ out x i g. go out x i g (marked m (opp x)) refl) [] (λ l i. absurd (Memᴰ.not-nil i))
+  tidy_all c h = fold_keeps (tidy_step m) (λ out. (l : ℕ) → Memᴰ l out → Kept m P l) c (λ out x i g. go out x i g (marked m (opp x)) refl) [] (λ l i. absurd (Memᴰ.not-nil i))
     where
       go : (out : List ℕ) (x : ℕ) → Memᴰ x c → ((l : ℕ) → Memᴰ l out → Kept m P l) → (b : Bool) → marked m (opp x) ≡ b
           → (l : ℕ) → Memᴰ l (cond b out (insert x out)) → Kept m P l
@@ -99,9 +102,9 @@ module _ (m : List ℕ) (P : ℕ → Type 0) where
 
   pub clean_all : (cs : List (List ℕ)) → All P cs → All (Kept m P) (clean m cs)
   unfolding clean clean_step add
-  clean_all cs h = run_keeps (clean_step m) (All (Kept m P)) cs (λ out c i g. go out c i g (void c) (some (marked m) c) refl (among (tidy m c) out)) [] (λ c i. absurd (Memᴰ.not-nil i))
+  clean_all cs h = fold_keeps (clean_step m) (All (Kept m P)) cs (λ out c i g. go out c i g (void c) (list_any (marked m) c) refl (among (tidy m c) out)) [] (λ c i. absurd (Memᴰ.not-nil i))
     where
-      go : (out : List (List ℕ)) (c : List ℕ) → Memᴰ c cs → All (Kept m P) out → (v b : Bool) → some (marked m) c ≡ b → (e : Bool)
+      go : (out : List (List ℕ)) (c : List ℕ) → Memᴰ c cs → All (Kept m P) out → (v b : Bool) → list_any (marked m) c ≡ b → (e : Bool)
           → All (Kept m P) (cond (v || b) out (cond e out (out ++ (tidy m c ∷ []))))
       go out c i g true b q e = g
       go out c i g false true q e = g

@@ -7,10 +7,11 @@ use mathlib.Core.Logic.{◌⊎◌, inl, inr, ⊎_elim}
 use lib.ListN.{set, replicate}
 use lib.Dec.{eqb}
 use borrow.Author.Tests.{eqb-true, not-true}
-use Rattle.ways.specs.Ways.{run}
-use Rattle.ways.proofs.Bools.{clash_of, or_cases}
-use Rattle.ways.proofs.Runs.{run_keeps, iter_keeps}
-use Rattle.ways.proofs.Rows.{every_all, some_in}
+use Rattle.std.specs.List.{fold}
+use Rattle.std.proofs.lemmas.Bool.{or_cases}
+use Rattle.ways.proofs.Bools.{clash_of}
+use Rattle.ways.proofs.Runs.{fold_keeps, iterate_keeps}
+use Rattle.ways.proofs.Rows.{list_all-mem, list_any-mem}
 use Rattle.tables.specs.Literal.{opp, holds}
 use Rattle.tables.specs.Clause.{void, satisfies, satisfies_all}
 use Rattle.tables.proofs.Literals.{holds-opp}
@@ -40,11 +41,11 @@ module _ (a : ℕ → Bool) where
   forces_sound : (m c : List ℕ) (l : ℕ) → satisfies a c ≡ true → Sound m → forces m c l ≡ true → holds a l ≡ true
   unfolding satisfies forces
   forces_sound m c l h s f =
-      let (x, i, t) = some_in (holds a) c h in
+      let (x, i, t) = list_any-mem (holds a) c h in
       ⊎_elim
       (λ q. subst (λ y. holds a y ≡ true) (eqb-true x l q) t)
       (λ q. clash_of (sym t ∙ not-true (holds a x) (sym (holds-opp a x) ∙ s (opp x) q)))
-      (or_cases (eqb x l) (marked m (opp x)) (every_all _ c f x i))
+      (or_cases (eqb x l) (marked m (opp x)) (list_all-mem _ c f x i))
 
   at_sound : (c m : List ℕ) (l : ℕ) → satisfies a c ≡ true → Sound m → Sound (force_at c m l)
   unfolding force_at
@@ -58,21 +59,21 @@ module _ (a : ℕ → Bool) where
   unfolding force_in
   in_sound m c h s = go (void c)
     where
-      go : (b : Bool) → Sound (cond b m (run (force_at c) m c))
+      go : (b : Bool) → Sound (cond b m (fold (force_at c) m c))
       go true = s
-      go false = run_keeps (force_at c) Sound c (λ k l i. at_sound c k l h) m s
+      go false = fold_keeps (force_at c) Sound c (λ k l i. at_sound c k l h) m s
 
   pub forced_holds : (n : ℕ) (cs : List (List ℕ)) → satisfies_all a cs ≡ true → (l : ℕ) → marked (forced n cs) l ≡ true → holds a l ≡ true
   unfolding satisfies_all forced pass
   forced_holds n cs h =
-      iter_keeps (pass cs) Sound (λ m. run_keeps force_in Sound cs (λ k c i. in_sound k c (every_all (satisfies a) cs h c i)) m)
+      iterate_keeps (pass cs) Sound (λ m. fold_keeps force_in Sound cs (λ k c i. in_sound k c (list_all-mem (satisfies a) cs h c i)) m)
       (2 * n + 2) (replicate (2 * n + 2) 0) (λ l e. clash_of (sym e ∙ none_marked (2 * n + 2) l))
 
 -- what is forced stands in some clause
 pub marked_all : (n : ℕ) (cs : List (List ℕ)) (P : ℕ → Type 0) → All P cs → (l : ℕ) → marked (forced n cs) l ≡ true → P l
 unfolding forced pass force_at force_in
 marked_all n cs P h =
-    iter_keeps (pass cs) Q (λ m. run_keeps force_in Q cs (λ k c i. in_all k c i) m) (2 * n + 2) (replicate (2 * n + 2) 0) (λ l e. clash_of (sym e ∙ none_marked (2 * n + 2) l))
+    iterate_keeps (pass cs) Q (λ m. fold_keeps force_in Q cs (λ k c i. in_all k c i) m) (2 * n + 2) (replicate (2 * n + 2) 0) (λ l e. clash_of (sym e ∙ none_marked (2 * n + 2) l))
   where
     Q : List ℕ → Type 0
     Q m = (l : ℕ) → marked m l ≡ true → P l
@@ -87,6 +88,6 @@ marked_all n cs P h =
     in_all : (m c : List ℕ) → Memᴰ c cs → Q m → Q (force_in m c)
     in_all m c i q = go (void c)
       where
-        go : (b : Bool) → Q (cond b m (run (force_at c) m c))
+        go : (b : Bool) → Q (cond b m (fold (force_at c) m c))
         go true = q
-        go false = run_keeps (force_at c) Q c (λ k l o. at_all c k l (h c i l o)) m q
+        go false = fold_keeps (force_at c) Q c (λ k l o. at_all c k l (h c i l o)) m q

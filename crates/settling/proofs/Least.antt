@@ -9,10 +9,11 @@ use lib.ListN.{length, get_or, set, replicate, length-set, length-replicate}
 use lib.Seq.{get_or-set_same}
 use lib.Dec.{eqb}
 use borrow.Author.Tests.{eqb-true, eqb-false, eq-eqb}
-use Rattle.ways.specs.Ways.{run}
-use Rattle.ways.proofs.Bools.{clash_of, or_cases}
-use Rattle.ways.proofs.Runs.{run_keeps, run_grows, run_still, iter_keeps, iter_closed}
-use Rattle.ways.proofs.Rows.{every_all, all_every}
+use Rattle.std.specs.List.{fold}
+use Rattle.std.proofs.lemmas.Bool.{or_cases}
+use Rattle.ways.proofs.Bools.{clash_of}
+use Rattle.ways.proofs.Runs.{fold_keeps, fold_grows, fold_still, iterate_keeps, iterate_closed}
+use Rattle.ways.proofs.Rows.{list_all-mem, mem-list_all}
 use Rattle.tables.specs.Literal.{opp}
 use Rattle.tables.specs.Clause.{void}
 use Rattle.tables.proofs.Literals.{high_literal}
@@ -61,9 +62,9 @@ in_grows : (m c : List ℕ) → (force_in m c ≡ m) ⊎ (ones m < ones (force_i
 unfolding force_in
 in_grows m c = go (void c)
   where
-    go : (b : Bool) → (cond b m (run (force_at c) m c) ≡ m) ⊎ (ones m < ones (cond b m (run (force_at c) m c)))
+    go : (b : Bool) → (cond b m (fold (force_at c) m c) ≡ m) ⊎ (ones m < ones (cond b m (fold (force_at c) m c)))
     go true = inl refl
-    go false = run_grows (force_at c) ones (at_grows c) c m
+    go false = fold_grows (force_at c) ones (at_grows c) c m
 
 -- lengths
 at_long : (k : ℕ) (c m : List ℕ) (l : ℕ) → length m ≡ k → length (force_at c m l) ≡ k
@@ -78,9 +79,9 @@ in_long : (k : ℕ) (m c : List ℕ) → length m ≡ k → length (force_in m c
 unfolding force_in
 in_long k m c h = go (void c)
   where
-    go : (b : Bool) → length (cond b m (run (force_at c) m c)) ≡ k
+    go : (b : Bool) → length (cond b m (fold (force_at c) m c)) ≡ k
     go true = h
-    go false = run_keeps (force_at c) (λ m. length m ≡ k) c (λ m l i. at_long k c m l) m h
+    go false = fold_keeps (force_at c) (λ m. length m ≡ k) c (λ m l i. at_long k c m l) m h
 
 module _ (n : ℕ) (cs : List (List ℕ)) where
   -- Inside every closed set: only what such a set holds is marked.
@@ -91,19 +92,19 @@ module _ (n : ℕ) (cs : List (List ℕ)) where
     pub forced_least : (l : ℕ) → marked (forced n cs) l ≡ true → In l
     unfolding forced pass force_in force_at forces
     forced_least =
-        iter_keeps (pass cs) Only (λ m. run_keeps force_in Only cs (λ k c i s. in_only k c i s (void c) refl) m)
+        iterate_keeps (pass cs) Only (λ m. fold_keeps force_in Only cs (λ k c i s. in_only k c i s (void c) refl) m)
         (2 * n + 2) (replicate (2 * n + 2) 0) (λ l e. clash_of (sym e ∙ none_marked (2 * n + 2) l))
       where
         at_only : (c m : List ℕ) (l : ℕ) → Memᴰ c cs → void c ≡ false → Memᴰ l c → Only m → (b : Bool) → forces m c l ≡ b → Only (cond b (set m l 1) m)
         at_only c m l i v o s true f k e =
             ⊎_elim
-            (λ q. subst In (sym q) (closed.rule c i v l o (λ x p d. s (opp x) (⊎_elim (λ w. absurd (d (eqb-true x l w))) (λ w. w) (or_cases (eqb x l) (marked m (opp x)) (every_all _ c f x p))))))
+            (λ q. subst In (sym q) (closed.rule c i v l o (λ x p d. s (opp x) (⊎_elim (λ w. absurd (d (eqb-true x l w))) (λ w. w) (or_cases (eqb x l) (marked m (opp x)) (list_all-mem _ c f x p))))))
             (s k) (set_was m l k e)
         at_only c m l i v o s false f k e = s k e
 
-        in_only : (m c : List ℕ) → Memᴰ c cs → Only m → (b : Bool) → void c ≡ b → Only (cond b m (run (force_at c) m c))
+        in_only : (m c : List ℕ) → Memᴰ c cs → Only m → (b : Bool) → void c ≡ b → Only (cond b m (fold (force_at c) m c))
         in_only m c i s true v = s
-        in_only m c i s false v = run_keeps (force_at c) Only c (λ k l o t. at_only c k l i v o t (forces k c l) refl) m s
+        in_only m c i s false v = fold_keeps (force_at c) Only c (λ k l o t. at_only c k l i v o t (forces k c l) refl) m s
 
   -- Closed: a further pass adds nothing, so a literal that its clause forces is marked.
   abbrev full : List ℕ
@@ -111,24 +112,24 @@ module _ (n : ℕ) (cs : List (List ℕ)) where
 
   long : (m : List ℕ) → length m ≡ 2 * n + 2 → length (pass cs m) ≡ 2 * n + 2
   unfolding pass
-  long m h = run_keeps force_in (λ m. length m ≡ 2 * n + 2) cs (λ m c i. in_long (2 * n + 2) m c) m h
+  long m h = fold_keeps force_in (λ m. length m ≡ 2 * n + 2) cs (λ m c i. in_long (2 * n + 2) m c) m h
 
   pub forced_long : length full ≡ 2 * n + 2
   unfolding forced
-  forced_long = iter_keeps (pass cs) (λ m. length m ≡ 2 * n + 2) long (2 * n + 2) (replicate (2 * n + 2) 0) (length-replicate (2 * n + 2) 0)
+  forced_long = iterate_keeps (pass cs) (λ m. length m ≡ 2 * n + 2) long (2 * n + 2) (replicate (2 * n + 2) 0) (length-replicate (2 * n + 2) 0)
 
   pub forced_still : pass cs full ≡ full
   unfolding forced pass
   forced_still =
-      iter_closed (pass cs) (λ m. length m ≡ 2 * n + 2) long ones (2 * n + 2) (λ m i. omega (arith, ones-le m))
-      (run_grows force_in ones in_grows cs) (2 * n + 2) (replicate (2 * n + 2) 0) (length-replicate (2 * n + 2) 0) (omega arith)
+      iterate_closed (pass cs) (λ m. length m ≡ 2 * n + 2) long ones (2 * n + 2) (λ m i. omega (arith, ones-le m))
+      (fold_grows force_in ones in_grows cs) (2 * n + 2) (replicate (2 * n + 2) 0) (length-replicate (2 * n + 2) 0) (omega arith)
 
   forced-marked : (c : List ℕ) (l : ℕ) → Memᴰ c cs → void c ≡ false → Memᴰ l c → l < 2 * n + 2 → forces full c l ≡ true → marked full l ≡ true
   unfolding pass force_in force_at marked
   forced-marked c l i v o h f =
-      let a : force_in full c ≡ full = run_still force_in ones in_grows cs full forced_still c i in
-      let b : run (force_at c) full c ≡ full = rw v at a in
-      let d : force_at c full l ≡ full = run_still (force_at c) ones (at_grows c) c full b l o in
+      let a : force_in full c ≡ full = fold_still force_in ones in_grows cs full forced_still c i in
+      let b : fold (force_at c) full c ≡ full = rw v at a in
+      let d : force_at c full l ≡ full = fold_still (force_at c) ones (at_grows c) c full b l o in
       let e : set full l 1 ≡ full = rw f at d in
       eq-eqb _ 1 (ap (λ z. get_or z l 0) (sym e) ∙ get_or-set_same full l 1 0 (rw forced_long h))
 
@@ -142,4 +143,4 @@ module _ (n : ℕ) (cs : List (List ℕ)) where
   pub forced_closed : Inside n cs → Closed cs (λ l. marked full l ≡ true)
   unfolding forces
   forced_closed inside =
-      record { rule = λ c i v l o h. forced-marked c l i v o (high_literal l n (inside c i l o).1) (all_every _ c (λ x p. each x l (h x p))) }
+      record { rule = λ c i v l o h. forced-marked c l i v o (high_literal l n (inside c i l o).1) (mem-list_all _ c (λ x p. each x l (h x p))) }

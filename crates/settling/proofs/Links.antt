@@ -7,10 +7,12 @@ use native.Mathlib.Omega.{arith}
 use lib.ListN.{length, get_or}
 use lib.Dec.{eqb, ltb}
 use borrow.Author.Tests.{eqb-true, not-true}
-use Rattle.ways.specs.Ways.{some, range, among}
-use Rattle.ways.proofs.Bools.{clash_of, and_left, and_right}
-use Rattle.ways.proofs.Runs.{run_keeps}
-use Rattle.ways.proofs.Rows.{every_all, keep_in}
+use Rattle.std.specs.List.{list_any, range_with_len}
+use Rattle.ways.specs.Ways.{among}
+use Rattle.std.proofs.lemmas.Bool.{and_parts}
+use Rattle.ways.proofs.Bools.{clash_of}
+use Rattle.ways.proofs.Runs.{fold_keeps}
+use Rattle.ways.proofs.Rows.{list_all-mem, filter-mem}
 use Rattle.ways.proofs.Members.{among-mem}
 use Rattle.tables.specs.Literal.{var, neg, opp, holds}
 use Rattle.tables.specs.Clause.{satisfies, satisfies_all}
@@ -61,7 +63,7 @@ module _ (a : ℕ → Bool) where
   Opposed c = holds a (get_or c 0 0) ≡ not (holds a (get_or c 1 0))
 
   opposed : (c : List ℕ) → eqb (length c) 2 ≡ true → satisfies a c ≡ true → satisfies a (map opp c) ≡ true → Opposed c
-  unfolding satisfies some
+  unfolding satisfies
   opposed [] e g h = clash_of (sym e)
   opposed (x ∷ []) e g h = clash_of (sym e)
   opposed (x ∷ y ∷ []) e g h = go (holds a x) (holds a y) g (rw (holds-opp a x, holds-opp a y) at h)
@@ -79,9 +81,9 @@ module _ (a : ℕ → Bool) where
   pub pairs_opposed : (ds : List (List ℕ)) → satisfies_all a ds ≡ true → (c : List ℕ) → Memᴰ c (pairs ds) → Opposed c
   unfolding pairs satisfies_all
   pairs_opposed ds h c m =
-      let (i, e) = keep_in _ ds c m in
+      let (i, e) = filter-mem _ ds c m in
       let two = eqb (length c) 2 in let there = among (map opp c) ds in
-      opposed c (and_left two there e) (every_all (satisfies a) ds h c i) (every_all (satisfies a) ds h (map opp c) (among-mem (map opp c) ds (and_right two there e)))
+      opposed c (and_parts two there e).0 (list_all-mem (satisfies a) ds h c i) (list_all-mem (satisfies a) ds h (map opp c) (among-mem (map opp c) ds (and_parts two there e).1))
 
   join_agrees : (s c : List ℕ) → Opposed c → Agrees s → Agrees (join s c)
   unfolding join
@@ -99,8 +101,7 @@ module _ (a : ℕ → Bool) where
         go false e true f = holds_zero a zero_is ∙ sym (not-true (a v) (sym (holds-neg a v) ∙ sound (2 * v + 1) f))
         go false e false f = holds_pos a v
 
-    start : (b k v : ℕ) → holds a (get_or (map (alone m) (range b k)) v (2 * (b + v))) ≡ a (b + v)
-    unfolding range
+    start : (b k v : ℕ) → holds a (get_or (map (alone m) (range_with_len b k)) v (2 * (b + v))) ≡ a (b + v)
     start b zero v = holds_pos a (b + v)
     start b (suc k) zero = let e : b + 0 ≡ b = omega arith in rw e (alone-holds b)
     start b (suc k) (suc v) = let e : b + suc v ≡ b + 1 + v = omega arith in rw e (start (b + 1) k v)
@@ -113,4 +114,4 @@ module _ (a : ℕ → Bool) where
     pub leaders_agree : (n : ℕ) (ds : List (List ℕ)) → satisfies_all a ds ≡ true → Agrees (leaders n m (pairs ds))
     unfolding leaders
     leaders_agree n ds h =
-        run_keeps join Agrees (pairs ds) (λ s c i. join_agrees s c (pairs_opposed ds h c i)) (starting n m) (begin n)
+        fold_keeps join Agrees (pairs ds) (λ s c i. join_agrees s c (pairs_opposed ds h c i)) (starting n m) (begin n)

@@ -8,8 +8,8 @@ use mathlib.Core.Logic.{◌↔◌}
 use native.Mathlib.Omega.{arith}
 use lib.ListN.{length, get_or, length-map}
 use lib.Dec.{eqb}
-use Rattle.ways.specs.Ways.{some, range}
-use Rattle.ways.proofs.Members.{range_size}
+use Rattle.std.specs.List.{list_any, range_with_len}
+use Rattle.std.proofs.lemmas.List.FromFn.{length-range_with_len}
 use Rattle.tables.specs.Literal.{var, holds}
 use Rattle.tables.specs.Clause.{satisfies_all}
 use Rattle.tables.proofs.Literals.{var_pos, holds_pos}
@@ -33,7 +33,7 @@ module _ (a : ℕ → Bool) (zero_is : a 0 ≡ false) (n : ℕ) where
 
   round_fine : (st : List ℕ) (cs : List (List ℕ)) → Good n st cs → Fine st cs (round n st cs)
   unfolding round contradicts cleaned paired
-  round_fine st cs good = go (some empty cs) refl (clash n M) refl (eqb (length P) 0) refl (some (torn S) P) refl
+  round_fine st cs good = go (list_any empty cs) refl (clash n M) refl (eqb (length P) 0) refl (list_any (torn S) P) refl
     where
       M : List ℕ
       M = m n st cs good
@@ -62,7 +62,7 @@ module _ (a : ℕ → Bool) (zero_is : a 0 ≡ false) (n : ℕ) where
         λ h. (sym (maps_hold a (replace S) D (back_to n st cs good a zero_is calm h.1)) ∙ h.0, h.1),
       )
 
-      go : (b : Bool) → some empty cs ≡ b → (c : Bool) → clash n M ≡ c → (d : Bool) → eqb (length P) 0 ≡ d → (e : Bool) → some (torn S) P ≡ e
+      go : (b : Bool) → list_any empty cs ≡ b → (c : Bool) → clash n M ≡ c → (d : Bool) → eqb (length P) 0 ≡ d → (e : Bool) → list_any (torn S) P ≡ e
           → Fine st cs (cond (b || c) stuck (cond d (ended T D) (cond e stuck (goes_on T (map (map (replace S)) D)))))
       go true p c q d z e r = no_empty n st cs good a zero_is p
       go false p true q d z e r = no_clash n st cs good a zero_is q
@@ -90,8 +90,8 @@ module _ (a : ℕ → Bool) (zero_is : a 0 ≡ false) (n : ℕ) where
       go (goes_on t es) h k = through t es (rounds n f (r + 1) t es) h.1 (k t es h.0)
 
 -- each variable by itself
-row_own : (b k v d : ℕ) → d ≡ 2 * (b + v) → get_or (map (alone []) (range b k)) v d ≡ d
-unfolding range alone marked
+row_own : (b k v d : ℕ) → d ≡ 2 * (b + v) → get_or (map (alone []) (range_with_len b k)) v d ≡ d
+unfolding alone marked
 row_own b zero v d e = refl
 row_own b (suc k) zero d e = omega arith
 row_own b (suc k) (suc v) d e = row_own (b + 1) k v d (omega arith)
@@ -103,7 +103,7 @@ own n (suc v) = row_own 1 n v (2 * suc v) (omega arith)
 
 pub first_good : (n : ℕ) (cs : List (List ℕ)) → Inside n cs → Good n (starting n []) cs
 unfolding starting
-first_good n cs h = record { size = ap suc (length-map (range 1 n) (alone []) ∙ range_size 1 n); none = own n 0; rooted = λ v. own n (var (stands (starting n []) v)); within = λ v h. subst (λ l. var l ≤ n) (sym (own n v)) (subst (λ u. u ≤ n) (sym (var_pos v)) h); over = λ c i l k. (own n (var l), (h c i l k).0, (h c i l k).1) }
+first_good n cs h = record { size = ap suc (length-map (range_with_len 1 n) (alone []) ∙ length-range_with_len 1 n); none = own n 0; rooted = λ v. own n (var (stands (starting n []) v)); within = λ v h. subst (λ l. var l ≤ n) (sym (own n v)) (subst (λ u. u ≤ n) (sym (var_pos v)) h); over = λ c i l k. (own n (var l), (h c i l k).0, (h c i l k).1) }
 
 -- the settled table, the values and the links together have exactly the models of the table; a contradiction has none
 abbrev pub Means : ℕ → (ℕ → Bool) → List (List ℕ) → Outcome → Type 0

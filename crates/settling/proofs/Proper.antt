@@ -8,10 +8,11 @@ use mathlib.Core.Logic.{⊎_elim}
 use native.Mathlib.Omega.{arith}
 use lib.Dec.{eqb, ltb}
 use borrow.Author.Tests.{eqb-true, eqb-false, ltb-true, ltb-false}
-use Rattle.ways.specs.Ways.{some, among}
+use Rattle.std.specs.List.{list_any}
+use Rattle.ways.specs.Ways.{among}
 use Rattle.ways.proofs.Bools.{never_both}
-use Rattle.ways.proofs.Runs.{run_keeps}
-use Rattle.ways.proofs.Rows.{in_some}
+use Rattle.ways.proofs.Runs.{fold_keeps}
+use Rattle.ways.proofs.Rows.{mem-list_any}
 use Rattle.ways.proofs.Members.{mem-has}
 use Rattle.tables.specs.Literal.{var, opp}
 use Rattle.tables.specs.Clause.{void}
@@ -64,7 +65,7 @@ record Tidy (c d : List ℕ) : Type 0 where
 
 tidy_is : (m c : List ℕ) → Tidy c (tidy m c)
 unfolding tidy tidy_step
-tidy_is m c = run_keeps (tidy_step m) (Tidy c) c (λ out x i t. go out x i t (marked m (opp x))) [] (record { rises = nil; inside = λ l i. absurd (Memᴰ.not-nil i) })
+tidy_is m c = fold_keeps (tidy_step m) (Tidy c) c (λ out x i t. go out x i t (marked m (opp x))) [] (record { rises = nil; inside = λ l i. absurd (Memᴰ.not-nil i) })
   where
     go : (out : List ℕ) (x : ℕ) → Memᴰ x c → Tidy c out → (b : Bool) → Tidy c (cond b out (insert x out))
     go out x i t true = t
@@ -76,11 +77,11 @@ tidy_proper c d v t = record { rises = t.rises; single = λ x y i j e. one x y (
   where
     one : (x y : ℕ) → Memᴰ x c → Memᴰ y c → var x ≡ var y → (b : Bool) → eqb x y ≡ b → x ≡ y
     one x y i j e true q = eqb-true x y q
-    one x y i j e false q = ⊎_elim (λ r. r) (λ r. absurd (never_both (in_some _ c y j (mem-has (opp y) c (Memᴰ.cast (sym r) i))) v)) (same_var x y e)
+    one x y i j e false q = ⊎_elim (λ r. r) (λ r. absurd (never_both (mem-list_any _ c y j (mem-has (opp y) c (Memᴰ.cast (sym r) i))) v)) (same_var x y e)
 
 pub clean_proper : (m : List ℕ) (cs : List (List ℕ)) (c : List ℕ) → Memᴰ c (clean m cs) → Proper c
 unfolding clean clean_step add
-clean_proper m cs = run_keeps (clean_step m) All cs (λ out c i h. go out c h (void c) refl (some (marked m) c) (among (tidy m c) out)) [] (λ c i. absurd (Memᴰ.not-nil i))
+clean_proper m cs = fold_keeps (clean_step m) All cs (λ out c i h. go out c h (void c) refl (list_any (marked m) c) (among (tidy m c) out)) [] (λ c i. absurd (Memᴰ.not-nil i))
   where
     All : List (List ℕ) → Type 0
     All out = (c : List ℕ) → Memᴰ c out → Proper c

@@ -8,8 +8,9 @@ use native.Mathlib.Omega.{arith}
 use lib.ListN.{length, get_or, length-map}
 use lib.Dec.{eqb, ltb}
 use borrow.Author.Tests.{eqb-false, ne_eqb, ltb-true, ltb-false}
-use Rattle.ways.specs.Ways.{range}
-use Rattle.ways.proofs.Members.{get_or-range, get_or_past}
+use Rattle.std.specs.List.{range_with_len}
+use Rattle.std.proofs.lemmas.List.FromFn.{get_or-map-range_with_len}
+use Rattle.ways.proofs.Members.{get_or_past}
 use Rattle.tables.specs.Literal.{var, neg, opp}
 use Rattle.tables.proofs.Literals.{var_pos, neg_pos, var-opp, low_var, same_var}
 use Rattle.rules.specs.Forced.{marked}
@@ -137,7 +138,7 @@ module _ (n : ℕ) (m : List ℕ) where
     where
       no : 1 ≤ 0 → ⊥
       no h = omega arith
-  starting_in (suc v) h k = let e : 1 + v ≡ suc v = omega arith in get_or-range (alone m) 1 n v _ (omega arith) ∙ ap (alone m) e
+  starting_in (suc v) h k = let e : 1 + v ≡ suc v = omega arith in get_or-map-range_with_len (alone m) 1 n v (1 + v) _ (omega arith) refl ∙ ap (alone m) e
 
   pub starting_cases : (v : ℕ) → (stands (starting n m) v < 2) ⊎ Root (starting n m) v
   unfolding starting stands alone
@@ -152,8 +153,8 @@ module _ (n : ℕ) (m : List ℕ) where
           pick false true = inl (omega arith)
           pick false false = inr refl
 
-      go : (b : Bool) → ltb v n ≡ b → (get_or (map (alone m) (range 1 n)) v (2 * suc v) < 2) ⊎ (get_or (map (alone m) (range 1 n)) v (2 * suc v) ≡ 2 * suc v)
-      go true h = let e : 1 + v ≡ suc v = omega arith in rw (get_or-range (alone m) 1 n v (2 * suc v) (ltb-true v n h), e) (one (suc v))
+      go : (b : Bool) → ltb v n ≡ b → (get_or (map (alone m) (range_with_len 1 n)) v (2 * suc v) < 2) ⊎ (get_or (map (alone m) (range_with_len 1 n)) v (2 * suc v) ≡ 2 * suc v)
+      go true h = let e : 1 + v ≡ suc v = omega arith in rw (get_or-map-range_with_len (alone m) 1 n v (1 + v) (2 * suc v) (ltb-true v n h) refl, e) (one (suc v))
       go false h = inr (get_or_past (alone m) 1 n v (2 * suc v) (ltb-false v n h))
 
   pub zero_root : Root (starting n m) 0

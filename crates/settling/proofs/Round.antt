@@ -9,11 +9,15 @@ use native.Mathlib.Omega.{arith}
 use lib.ListN.{length, get_or, length-map, get_or-eq_default}
 use lib.Dec.{eqb, ltb, eqb-suc-zero}
 use borrow.Author.Tests.{eqb-true, not-true, ltb-true, ltb-false}
-use Rattle.ways.specs.Ways.{run, some, range, among}
-use Rattle.ways.proofs.Bools.{clash_of, and_left, and_right}
-use Rattle.ways.proofs.Runs.{run_keeps}
-use Rattle.ways.proofs.Rows.{every_all, some_in, none_of, keep_in}
-use Rattle.ways.proofs.Members.{map-mem, mem-range, range_size, get_or-mem, get_or-map}
+use Rattle.std.specs.List.{fold, list_any, range_with_len}
+use Rattle.ways.specs.Ways.{among}
+use Rattle.std.proofs.lemmas.Bool.{and_parts}
+use Rattle.std.proofs.lemmas.List.{get_or-map}
+use Rattle.std.proofs.lemmas.List.FromFn.{length-range_with_len}
+use Rattle.ways.proofs.Bools.{clash_of}
+use Rattle.ways.proofs.Runs.{fold_keeps}
+use Rattle.ways.proofs.Rows.{list_all-mem, list_any-mem, none_of, filter-mem}
+use Rattle.ways.proofs.Members.{map-mem, mem-range, get_or-mem}
 use Rattle.tables.specs.Literal.{var, opp, holds}
 use Rattle.tables.specs.Clause.{satisfies, satisfies_all}
 use Rattle.tables.proofs.Literals.{two_forms, holds_pos, holds-neg, holds_zero, holds_one}
@@ -87,11 +91,11 @@ module _ (n : ℕ) (st : List ℕ) (cs : List (List ℕ)) (good : Good n st cs) 
 
   leaders_inv : (R : ℕ → Type 0) → ((v : ℕ) → R v → stands s₀ v < 2 → R 0) → All (λ l. R (var l)) ds → Inv R s₀ s
   unfolding leaders pairs
-  leaders_inv R h all = run_keeps join (Inv R s₀) (pairs ds) (λ t c i. go t c (keep_in _ ds c i)) s₀ (starting_inv n m R h)
+  leaders_inv R h all = fold_keeps join (Inv R s₀) (pairs ds) (λ t c i. go t c (filter-mem _ ds c i)) s₀ (starting_inv n m R h)
     where
       go : (t c : List ℕ) → Memᴰ c ds × ((eqb (length c) 2 && among (map opp c) ds) ≡ true) → Inv R s₀ t → Inv R s₀ (join t c)
       go t c (i, e) =
-          let two : length c ≡ 2 = eqb-true _ _ (and_left (eqb (length c) 2) (among (map opp c) ds) e) in
+          let two : length c ≡ 2 = eqb-true _ _ (and_parts (eqb (length c) 2) (among (map opp c) ds) e).0 in
           join_inv R s₀ t c (all c i _ (get_or-mem c 0 0 (omega arith))) (all c i _ (get_or-mem c 1 0 (omega arith)))
 
   -- the merges, with R: a root before; and with R: a root that is not forced
@@ -106,7 +110,7 @@ module _ (n : ℕ) (st : List ℕ) (cs : List (List ℕ)) (good : Good n st cs) 
 
   pub s_size : length s ≡ length st
   unfolding starting
-  s_size = roots_inv.size ∙ ap suc (length-map (range 1 n) (alone m) ∙ range_size 1 n) ∙ sym good.size
+  s_size = roots_inv.size ∙ ap suc (length-map (range_with_len 1 n) (alone m) ∙ length-range_with_len 1 n) ∙ sym good.size
 
   pub new_at : (v : ℕ) → stands st' v ≡ replace s (stands st v)
   new_at = compose s st s_size
@@ -144,7 +148,7 @@ module _ (n : ℕ) (st : List ℕ) (cs : List (List ℕ)) (good : Good n st cs) 
 
   -- where no pair is found the settled clauses speak of roots only
   pub last_good : eqb (length (pairs ds)) 0 ≡ true → Good n st' ds
-  unfolding leaders run
+  unfolding leaders
   last_good e =
       record {
         size = length-map st (replace s) ∙ good.size;
@@ -180,7 +184,7 @@ module _ (n : ℕ) (st : List ℕ) (cs : List (List ℕ)) (good : Good n st cs) 
     module _ (calm : clash n m ≡ false) (g : Agrees a st') where
       one_way : (w : ℕ) → 1 ≤ w → w ≤ n → marked m (2 * w + 1) ≡ true → marked m (2 * w) ≡ false
       unfolding clash
-      one_way w lo hi e = go (marked m (2 * w)) refl (none_of _ (range 1 n) calm w (mem-range 1 n w lo (omega arith)))
+      one_way w lo hi e = go (marked m (2 * w)) refl (none_of _ (range_with_len 1 n) calm w (mem-range 1 n w lo (omega arith)))
         where
           go : (b : Bool) → marked m (2 * w) ≡ b → (marked m (2 * w) && marked m (2 * w + 1)) ≡ false → b ≡ false
           go true q h = clash_of (sym (rw (q, e)) ∙ h)
@@ -210,9 +214,9 @@ module _ (n : ℕ) (st : List ℕ) (cs : List (List ℕ)) (good : Good n st cs) 
       back_to c i l k = replace-holds a s l (star g (var l) (ds_live c i l k).here)
 
     -- a contradiction has no model
-    pub no_empty : some empty cs ≡ true → satisfies_all a cs ≡ true → ⊥
-    unfolding satisfies_all empty satisfies some
-    no_empty e h = let (c, i, q) = some_in empty cs e in hollow c q (every_all (satisfies a) cs h c i)
+    pub no_empty : list_any empty cs ≡ true → satisfies_all a cs ≡ true → ⊥
+    unfolding satisfies_all empty satisfies
+    no_empty e h = let (c, i, q) = list_any-mem empty cs e in hollow c q (list_all-mem (satisfies a) cs h c i)
       where
         hollow : (c : List ℕ) → eqb (length c) 0 ≡ true → satisfies a c ≡ true → ⊥
         hollow [] e g = clash_of (sym g)
@@ -221,15 +225,15 @@ module _ (n : ℕ) (st : List ℕ) (cs : List (List ℕ)) (good : Good n st cs) 
     pub no_clash : clash n m ≡ true → satisfies_all a cs ≡ true → ⊥
     unfolding clash
     no_clash e h =
-        let (v, i, q) = some_in _ (range 1 n) e in
-        let p : a v ≡ true = sym (holds_pos a v) ∙ sound h (2 * v) (and_left (marked m (2 * v)) (marked m (2 * v + 1)) q) in
-        let r : a v ≡ false = not-true (a v) (sym (holds-neg a v) ∙ sound h (2 * v + 1) (and_right (marked m (2 * v)) (marked m (2 * v + 1)) q)) in
+        let (v, i, q) = list_any-mem _ (range_with_len 1 n) e in
+        let p : a v ≡ true = sym (holds_pos a v) ∙ sound h (2 * v) (and_parts (marked m (2 * v)) (marked m (2 * v + 1)) q).0 in
+        let r : a v ≡ false = not-true (a v) (sym (holds-neg a v) ∙ sound h (2 * v + 1) (and_parts (marked m (2 * v)) (marked m (2 * v + 1)) q).1) in
         clash_of (sym p ∙ r)
 
-    pub no_torn : some (torn s) (pairs ds) ≡ true → satisfies_all a cs ≡ true → ⊥
+    pub no_torn : list_any (torn s) (pairs ds) ≡ true → satisfies_all a cs ≡ true → ⊥
     unfolding torn
     no_torn e h =
-        let (c, i, q) = some_in _ (pairs ds) e in
+        let (c, i, q) = list_any-mem _ (pairs ds) e in
         let x = get_or c 0 0 in let y = get_or c 1 0 in
         let g : Agrees a s = leaders_is h in
         let same : holds a x ≡ holds a y = sym (replace-holds a s x (g (var x))) ∙ ap (holds a) (eqb-true (replace s x) (replace s y) q) ∙ replace-holds a s y (g (var y)) in

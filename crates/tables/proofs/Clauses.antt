@@ -5,8 +5,10 @@ use mathlib.Core.Bool.{Bool, true, false, not, ◌&&◌}
 use mathlib.Core.List.{List, [], ◌∷◌, ◌++◌, map, Memᴰ}
 use lib.IntN.{ℤ}
 use borrow.Author.Tests.{eq-eqb, ne_eqb}
-use Rattle.ways.specs.Ways.{some}
-use Rattle.ways.proofs.Rows.{some_in, in_some, every-append, some_alike, every_alike, some-map, every-map}
+use Rattle.std.specs.List.{list_any}
+use Rattle.std.proofs.lemmas.List.Folds.{list_all-append}
+use Rattle.std.proofs.lemmas.List.Folds.{list_all-map}
+use Rattle.ways.proofs.Rows.{list_any-mem, mem-list_any, list_any_alike, list_all_alike, list_any-map}
 use Rattle.ways.proofs.Members.{has-mem}
 use Rattle.tables.specs.Literal.{literal, var, opp, holds}
 use Rattle.tables.specs.Clause.{clauses_from, void, satisfies, satisfies_all}
@@ -28,33 +30,33 @@ All P cs = (c : List ℕ) → Memᴰ c cs → (l : ℕ) → Memᴰ l c → P l
 module _ (a : ℕ → Bool) where
   pub all_append : (cs ds : List (List ℕ)) → satisfies_all a (cs ++ ds) ≡ (satisfies_all a cs && satisfies_all a ds)
   unfolding satisfies_all
-  all_append cs ds = every-append (satisfies a) cs ds
+  all_append cs ds = list_all-append (satisfies a) cs ds
 
   -- A void clause is satisfied by every assignment.
   pub void-holds : (c : List ℕ) → void c ≡ true → satisfies a c ≡ true
   unfolding void satisfies
-  void-holds c e = let (x, i, h) = some_in _ c e in go (holds a x) refl i (has-mem (opp x) c h)
+  void-holds c e = let (x, i, h) = list_any-mem _ c e in go (holds a x) refl i (has-mem (opp x) c h)
     where
-      go : {x : ℕ} (b : Bool) → holds a x ≡ b → Memᴰ x c → Memᴰ (opp x) c → some (holds a) c ≡ true
-      go {x} true t i j = in_some (holds a) c x i t
-      go {x} false t i j = in_some (holds a) c (opp x) j (holds-opp a x ∙ ap not t)
+      go : {x : ℕ} (b : Bool) → holds a x ≡ b → Memᴰ x c → Memᴰ (opp x) c → list_any (holds a) c ≡ true
+      go {x} true t i j = mem-list_any (holds a) c x i t
+      go {x} false t i j = mem-list_any (holds a) c (opp x) j (holds-opp a x ∙ ap not t)
 
   -- A change of literals that keeps the truth of those in the clauses keeps that of the clauses.
   module _ (f : ℕ → ℕ) where
     pub map_holds : (c : List ℕ) → ((l : ℕ) → Memᴰ l c → holds a (f l) ≡ holds a l) → satisfies a (map f c) ≡ satisfies a c
     unfolding satisfies
-    map_holds c h = some-map f (holds a) c ∙ some_alike (λ l. holds a (f l)) (holds a) c h
+    map_holds c h = list_any-map f (holds a) c ∙ list_any_alike (λ l. holds a (f l)) (holds a) c h
 
     pub maps_hold : (cs : List (List ℕ)) → All (λ l. holds a (f l) ≡ holds a l) cs → satisfies_all a (map (map f) cs) ≡ satisfies_all a cs
     unfolding satisfies_all
-    maps_hold cs h = every-map (map f) (satisfies a) cs ∙ every_alike (λ c. satisfies a (map f c)) (satisfies a) cs (λ c i. map_holds c (h c i))
+    maps_hold cs h = list_all-map (satisfies a) (map f) cs ∙ list_all_alike (λ c. satisfies a (map f c)) (satisfies a) cs (λ c i. map_holds c (h c i))
 
 -- Two assignments that agree on the variables of some clauses satisfy the same of them.
 module _ (a b : ℕ → Bool) where
   pub alike_holds : (c : List ℕ) → ((l : ℕ) → Memᴰ l c → a (var l) ≡ b (var l)) → satisfies a c ≡ satisfies b c
   unfolding satisfies
-  alike_holds c h = some_alike (holds a) (holds b) c (λ l i. holds_alike a b l (h l i))
+  alike_holds c h = list_any_alike (holds a) (holds b) c (λ l i. holds_alike a b l (h l i))
 
   pub alikes_hold : (cs : List (List ℕ)) → All (λ l. a (var l) ≡ b (var l)) cs → satisfies_all a cs ≡ satisfies_all b cs
   unfolding satisfies_all
-  alikes_hold cs h = every_alike (satisfies a) (satisfies b) cs (λ c i. alike_holds c (h c i))
+  alikes_hold cs h = list_all_alike (satisfies a) (satisfies b) cs (λ c i. alike_holds c (h c i))

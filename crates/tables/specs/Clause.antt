@@ -1,6 +1,7 @@
 -- Clauses, and the table as a row of them.
 use Rattle.std.specs.Prelude.{ℕ, Bool, true, false, List, [], ◌∷◌, ◌++◌, ℤ, eqb}
-use Rattle.ways.specs.Ways.{some, every, has}
+use Rattle.std.specs.List.{list_any, list_all}
+use Rattle.ways.specs.Ways.{has}
 use Rattle.tables.specs.Literal.{literal, opp, holds}
 
 -- "A table is a row of signed 32-bit entries; 0 ends each clause."
@@ -15,11 +16,11 @@ clauses t = clauses_from [] t
 
 -- "One holding v and −v is void."
 unfoldable pub void : List ℕ → Bool
-void c = some (λ l. has (opp l) c) c
+void c = list_any (λ l. has (opp l) c) c
 
 -- An assignment satisfies a clause if one of its literals is true, and a row of clauses if it satisfies each.
 unfoldable pub satisfies : (ℕ → Bool) → List ℕ → Bool
-satisfies a c = some (holds a) c
+satisfies a c = list_any (holds a) c
 
 unfoldable pub satisfies_all : (ℕ → Bool) → List (List ℕ) → Bool
-satisfies_all a cs = every (satisfies a) cs
+satisfies_all a cs = list_all (satisfies a) cs

@@ -2,7 +2,8 @@
 use Rattle.std.specs.Prelude.{ℕ, ◌≡◌, refl, Bool, true, false, ◌&&◌, List, [], ◌∷◌, ◌++◌, map, pos, length, replicate, eqb}
 use Prim.Native.Char.{code}
 use Prim.Native.String.{String, [] as nothing, ◌∷◌ as ◌then◌}
-use Rattle.ways.specs.Ways.{every, same}
+use Rattle.std.specs.List.{list_all}
+use Rattle.ways.specs.Ways.{same}
 use Rattle.tables.specs.Literal.{literal, entry, var, neg}
 use Rattle.tables.specs.Clause.{clauses_from, clauses}
 use Rattle.tables.specs.Check.{check_from, checked}
@@ -139,6 +140,6 @@ writes =
     ∷ record { vars = 1; table = 2 ∷ []; room = 14; answer = Wrote.Refused 3 1; bytes = [] }
     ∷ []
 
-pub all_right : (every right_read reads && every right_written writes) ≡ true
-unfolding ascii alike alike_writing right_read right_written reads writes every same literal entry var neg clauses_from clauses check_from checked blank solid feed before tokens_from digits natural plain minus number remarks no_more size_c size_v word_cnf word_p header_at header fault body_from said entry_of front R.behind R.counted R.judged R.verdict R.roomed R.reading R.row_by R.row_after digits_of decimal signed W.first_line W.parting W.clause_lines W.written W.roomed W.writing W.buffer_by W.buffer_after
+pub all_right : (list_all right_read reads && list_all right_written writes) ≡ true
+unfolding ascii alike alike_writing right_read right_written reads writes literal entry var neg clauses_from clauses check_from checked blank solid feed before tokens_from digits natural plain minus number remarks no_more size_c size_v word_cnf word_p header_at header fault body_from said entry_of front R.behind R.counted R.judged R.verdict R.roomed R.reading R.row_by R.row_after digits_of decimal signed W.first_line W.parting W.clause_lines W.written W.roomed W.writing W.buffer_by W.buffer_after
 all_right = refl

@@ -9,40 +9,36 @@ use native.Mathlib.Omega.{arith}
 use lib.ListN.{length, get_or}
 use lib.Dec.{eqb}
 use borrow.Author.Tests.{eqb-true, eqb-false, eq-eqb}
-use Rattle.ways.specs.Ways.{range, has, same, among}
-use Rattle.ways.proofs.Bools.{clash_of, and_left, and_right}
-use Rattle.ways.proofs.Rows.{some_in, in_some}
+use Rattle.std.specs.List.{range_with_len}
+use Rattle.ways.specs.Ways.{has, same, among}
+use Rattle.std.proofs.lemmas.Bool.{and_parts}
+use Rattle.ways.proofs.Bools.{clash_of}
+use Rattle.ways.proofs.Rows.{list_any-mem, mem-list_any}
 
 pub has-mem : (x : ℕ) (xs : List ℕ) → has x xs ≡ true → Memᴰ x xs
-unfolding has
-has-mem x xs e = let (y, m, q) = some_in (eqb x) xs e in Memᴰ.cast (eqb-true x y q) m
+has-mem x xs e = let (y, m, q) = list_any-mem (eqb x) xs e in Memᴰ.cast (eqb-true x y q) m
 
 pub mem-has : (x : ℕ) (xs : List ℕ) → Memᴰ x xs → has x xs ≡ true
-unfolding has
-mem-has x xs m = in_some (eqb x) xs x m (eq-eqb x x refl)
+mem-has x xs m = mem-list_any (eqb x) xs x m (eq-eqb x x refl)
 
 pub same-eq : (xs ys : List ℕ) → same xs ys ≡ true → xs ≡ ys
-unfolding same
 same-eq [] [] e = refl
 same-eq [] (y ∷ ys) e = clash_of (sym e)
 same-eq (x ∷ xs) [] e = clash_of (sym e)
 same-eq (x ∷ xs) (y ∷ ys) e =
-    let p : x ≡ y = eqb-true x y (and_left (eqb x y) (same xs ys) e) in
-    let q : xs ≡ ys = same-eq xs ys (and_right (eqb x y) (same xs ys) e) in
+    let p : x ≡ y = eqb-true x y (and_parts (eqb x y) (same xs ys) e).0 in
+    let q : xs ≡ ys = same-eq xs ys (and_parts (eqb x y) (same xs ys) e).1 in
     rw (p, q)
 
 pub same_self : (xs : List ℕ) → same xs xs ≡ true
-unfolding same
 same_self [] = refl
 same_self (x ∷ xs) = rw (eq-eqb x x refl, same_self xs)
 
 pub among-mem : (c : List ℕ) (cs : List (List ℕ)) → among c cs ≡ true → Memᴰ c cs
-unfolding among
-among-mem c cs e = let (d, m, q) = some_in (same c) cs e in Memᴰ.cast (same-eq c d q) m
+among-mem c cs e = let (d, m, q) = list_any-mem (same c) cs e in Memᴰ.cast (same-eq c d q) m
 
 pub mem-among : (c : List ℕ) (cs : List (List ℕ)) → Memᴰ c cs → among c cs ≡ true
-unfolding among
-mem-among c cs m = in_some (same c) cs c m (same_self c)
+mem-among c cs m = mem-list_any (same c) cs c m (same_self c)
 
 -- What stands in a mapped row comes from the row.
 pub map-mem : {X Y : Type 0} (f : X → Y) (xs : List X) (y : Y) → Memᴰ y (map f xs) → (x : X) × Memᴰ x xs × (y ≡ f x)
@@ -62,28 +58,21 @@ mem_flat f (z ∷ xs) x y (Memᴰ.head e) j = Memᴰ.append_left (flat_map f xs)
 mem_flat f (z ∷ xs) x y (Memᴰ.tail i) j = Memᴰ.append_right (f z) (mem_flat f xs x y i j)
 
 -- Ranges.
-pub mem-range : (b k v : ℕ) → b ≤ v → v < b + k → Memᴰ v (range b k)
-unfolding range
+pub mem-range : (b k v : ℕ) → b ≤ v → v < b + k → Memᴰ v (range_with_len b k)
 mem-range b zero v h i = absurd (no h i)
   where
     no : b ≤ v → v < b + 0 → ⊥
     no h i = omega arith
 mem-range b (suc k) v h i = go (eqb v b) refl (mem-range (b + 1) k v)
   where
-    go : (e : Bool) → eqb v b ≡ e → (b + 1 ≤ v → v < b + 1 + k → Memᴰ v (range (b + 1) k)) → Memᴰ v (b ∷ range (b + 1) k)
+    go : (e : Bool) → eqb v b ≡ e → (b + 1 ≤ v → v < b + 1 + k → Memᴰ v (range_with_len (b + 1) k)) → Memᴰ v (b ∷ range_with_len (b + 1) k)
     go true e r = Memᴰ.head (eqb-true v b e)
     go false e r = let n : v ≡ b → ⊥ = eqb-false v b e in Memᴰ.tail (r (omega arith) (omega arith))
 
-pub range_in : (b k v : ℕ) → Memᴰ v (range b k) → (b ≤ v) × (v < b + k)
-unfolding range
-range_in b zero v i = absurd (Memᴰ.not-nil i)
-range_in b (suc k) v (Memᴰ.head e) = (omega arith, omega arith)
-range_in b (suc k) v (Memᴰ.tail i) = let (l, h) = range_in (b + 1) k v i in (omega arith, omega arith)
-
-pub range_size : (b k : ℕ) → length (range b k) ≡ k
-unfolding range
-range_size b zero = refl
-range_size b (suc k) = ap suc (range_size (b + 1) k)
+pub range-mem : (b k v : ℕ) → Memᴰ v (range_with_len b k) → (b ≤ v) × (v < b + k)
+range-mem b zero v i = absurd (Memᴰ.not-nil i)
+range-mem b (suc k) v (Memᴰ.head e) = (omega arith, omega arith)
+range-mem b (suc k) v (Memᴰ.tail i) = let (l, h) = range-mem (b + 1) k v i in (omega arith, omega arith)
 
 -- A place of a row, of a mapped row, of a mapped range.
 pub get_or-mem : {X : Type 0} (c : List X) (i : ℕ) (d : X) → i < length c → Memᴰ (get_or c i d) c
@@ -94,25 +83,7 @@ get_or-mem [] i d h = absurd (no h)
 get_or-mem (x ∷ c) zero d h = Memᴰ.head refl
 get_or-mem (x ∷ c) (suc i) d h = Memᴰ.tail (get_or-mem c i d (omega arith))
 
-pub get_or-map : {X Y : Type 0} (f : X → Y) (s : List X) (v : ℕ) (d : X) (e : Y) → v < length s → get_or (map f s) v e ≡ f (get_or s v d)
-get_or-map f [] v d e h = absurd (no h)
-  where
-    no : v < 0 → ⊥
-    no h = omega arith
-get_or-map f (x ∷ s) zero d e h = refl
-get_or-map f (x ∷ s) (suc v) d e h = get_or-map f s v d e (omega arith)
-
-pub get_or-range : {X : Type 0} (f : ℕ → X) (b k v : ℕ) (d : X) → v < k → get_or (map f (range b k)) v d ≡ f (b + v)
-unfolding range
-get_or-range f b zero v d h = absurd (no h)
-  where
-    no : v < 0 → ⊥
-    no h = omega arith
-get_or-range f b (suc k) zero d h = let e : b + 0 ≡ b = omega arith in rw e
-get_or-range f b (suc k) (suc v) d h = let e : b + suc v ≡ b + 1 + v = omega arith in rw e (get_or-range f (b + 1) k v d (omega arith))
-
-pub get_or_past : {X : Type 0} (f : ℕ → X) (b k v : ℕ) (d : X) → k ≤ v → get_or (map f (range b k)) v d ≡ d
-unfolding range
+pub get_or_past : {X : Type 0} (f : ℕ → X) (b k v : ℕ) (d : X) → k ≤ v → get_or (map f (range_with_len b k)) v d ≡ d
 get_or_past f b zero v d h = refl
 get_or_past f b (suc k) zero d h = absurd (no h)
   where

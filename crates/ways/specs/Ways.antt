@@ -1,54 +1,25 @@
--- The ways of going through a row. Nearly every other definition is made of these and has no recursion of its own, so
--- that whoever knows this page can read all the others.
-use Rattle.std.specs.Prelude.{ℕ, zero, suc, ◌+◌, Bool, true, false, cond, ◌&&◌, ◌||◌, List, [], ◌∷◌, eqb}
+-- The ways of going through a row. Nearly every other definition is made of the library's words for them, `fold`, `iterate`,
+-- `filter`, `list_any`, `list_all`, `range_with_len`, `map` and `flat_map`, and has no recursion of its own. Here are the
+-- few that the library lacks.
+use Rattle.std.specs.Prelude.{ℕ, Bool, false, List, [], ◌∷◌, eqb}
 use Rattle.std.specs.Bool.{xor}
+use Rattle.std.specs.List.{list_any}
+use Rattle.std.specs.Cmp.Lexicographic.{pointwise}
 
--- A step for each element, from the first to the last.
-module _ {S X : Type 0} (step : S → X → S) where
-  unfoldable pub run : S → List X → S
-  run s [] = s
-  run s (x ∷ xs) = run (step s x) xs
-
--- A pass, k times.
-module _ {S : Type 0} (pass : S → S) where
-  unfoldable pub iter : ℕ → S → S
-  iter zero s = s
-  iter (suc k) s = iter k (pass s)
-
--- A test: does some element pass it, does every one, does an odd number of them; those that pass it, in order.
+-- Does an odd number of elements pass a test?
 module _ {X : Type 0} (test : X → Bool) where
-  unfoldable pub some : List X → Bool
-  some [] = false
-  some (x ∷ xs) = test x || some xs
-
-  unfoldable pub every : List X → Bool
-  every [] = true
-  every (x ∷ xs) = test x && every xs
-
-  unfoldable pub oddly : List X → Bool
+  abbrev pub oddly : List X → Bool
   oddly [] = false
   oddly (x ∷ xs) = xor (test x) (oddly xs)
 
-  unfoldable pub keep : List X → List X
-  keep [] = []
-  keep (x ∷ xs) = cond (test x) (x ∷ keep xs) (keep xs)
-
--- The k numbers from a on.
-unfoldable pub range : ℕ → ℕ → List ℕ
-range a zero = []
-range a (suc k) = a ∷ range (a + 1) k
-
 -- Does a number stand in a row?
-unfoldable pub has : ℕ → List ℕ → Bool
-has x xs = some (eqb x) xs
+abbrev pub has : ℕ → List ℕ → Bool
+has x xs = list_any (eqb x) xs
 
 -- Are two rows the same, number by number?
-unfoldable pub same : List ℕ → List ℕ → Bool
-same [] [] = true
-same [] (y ∷ ys) = false
-same (x ∷ xs) [] = false
-same (x ∷ xs) (y ∷ ys) = eqb x y && same xs ys
+abbrev pub same : List ℕ → List ℕ → Bool
+same xs ys = pointwise eqb xs ys
 
 -- Does a row stand among others?
-unfoldable pub among : List ℕ → List (List ℕ) → Bool
-among c cs = some (same c) cs
+abbrev pub among : List ℕ → List (List ℕ) → Bool
+among c cs = list_any (same c) cs
