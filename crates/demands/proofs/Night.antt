@@ -13,12 +13,14 @@ use borrow.Author.Tests.{eqb-false, ne_eqb, leb-false, le-ltb}
 use Rattle.std.specs.List.{fold}
 use Rattle.std.proofs.lemmas.List.Sums.{fold-append}
 use Rattle.ways.proofs.Runs.{fold_keeps}
-use Rattle.tables.specs.declared.Verdict.{Verdict}
-use Rattle.tables.specs.declared.Verdict.TheVariants.{Accepted, Refused}
-use Rattle.rules.specs.Pins.{in_force, empty_book, with_pin, without_last, take_back}
-use Rattle.rules.specs.Calls.{refuse, book_long, held_bad, outcome_of, build_verdict, build, build_listing, pin_verdict, booked_as, pin}
-use Rattle.rules.specs.declared.Book.{Book}
-use Rattle.rules.specs.declared.Booked.{Booked}
+use Rattle.std.specs.Prelude.{Result, Ok, Err}
+use Rattle.std.specs.Result.{result_and}
+use Rattle.tables.specs.Numbers.{Verdict, refuse, first_refusal}
+use Rattle.tables.specs.declared.numbers.Refusal.{Refusal}
+use Rattle.tables.specs.declared.numbers.Refusal.TheVariants.{BookFull, NothingHeld}
+use Rattle.rules.specs.Pins.{in_force, empty_book, with_pin, without_last, book_long, book_after, take_back}
+use Rattle.rules.specs.Calls.{held_bad, outcome_of, build_verdict, build, build_listing, pin_verdict, pin}
+use Rattle.rules.specs.declared.book.Book.{Book}
 use Rattle.demands.specs.Night.{Move, put, back, answer, stacked, Desk, opening, move, after, StackHeld, StackDecides, TakeBackUndoes}
 use Rattle.demands.proofs.Verdicts.{all_accept, refuse_accepts}
 
@@ -28,6 +30,10 @@ record Held (d : Desk) : Type 0 where
   count : d.book.held ≡ length d.stack
   few : d.book.held ≤ 64
   whole : length d.book.pins ≡ 64
+
+-- The desk after a move that was answered so.
+abbrev moved_by : Desk → Move → Result Book Refusal → Desk
+moved_by d m a = record { book = book_after d.book a; stack = stacked d.stack m a }
 
 module _ (d : Desk) (h : Held d) where
   abbrev b : Book
@@ -55,28 +61,25 @@ module _ (d : Desk) (h : Held d) where
       }
 
   -- An accepted pin found a place free.
-  room : (n : ℕ) (t : List ℤ) (work : ℕ) (x : ℤ) → pin_verdict n t b work x ≡ Accepted → b.held < 64
+  room : (n : ℕ) (t : List ℤ) (work : ℕ) (x : ℤ) → pin_verdict n t b work x ≡ Ok tt → b.held < 64
   unfolding pin_verdict
   room n t work x e =
-      leb-false 64 b.held (refuse_accepts (leb 64 b.held) 6 64
-      (all_accept _ e (refuse (leb 64 b.held) 6 64) (Memᴰ.tail (Memᴰ.tail (Memᴰ.tail (Memᴰ.tail (Memᴰ.tail (Memᴰ.head refl))))))))
+      leb-false 64 b.held (refuse_accepts (leb 64 b.held) BookFull
+      (all_accept _ e (refuse (leb 64 b.held) BookFull) (Memᴰ.tail (Memᴰ.tail (Memᴰ.tail (Memᴰ.tail (Memᴰ.tail (Memᴰ.head refl))))))))
 
   put_held : (n : ℕ) (t : List ℤ) (work : ℕ) (x : ℤ) → Held (move d (put n t work x))
-  unfolding move answer pin booked_as stacked
+  unfolding move answer pin stacked
   put_held n t work x = go (pin_verdict n t b work x) refl
     where
-      go : (v : Verdict) → pin_verdict n t b work x ≡ v → Held (record { book = (booked_as b x v).book; stack = stacked d.stack (put n t work x) (booked_as b x v).verdict })
-      go Accepted e = pinned_held x (room n t work x e)
-      go (Refused number place) e = h
+      go : (v : Verdict) → pin_verdict n t b work x ≡ v → Held (moved_by d (put n t work x) (result_and v (Ok (with_pin b x))))
+      go (Ok _) e = pinned_held x (room n t work x e)
+      go (Err why) e = h
 
   back_held : Held (move d back)
-  unfolding move answer take_back stacked
+  unfolding move answer take_back book_long stacked first_refusal refuse
   back_held = go (eqb b.held 0) refl (ltb 64 b.held)
     where
-      answered : Bool → Bool → Booked
-      answered z l = elim z [ true ↦ record { verdict = Refused 7 0; book = b } | false ↦ elim l [ true ↦ record { verdict = Refused 6 64; book = b } | false ↦ record { verdict = Accepted; book = without_last b } ] ]
-
-      go : (z : Bool) → eqb b.held 0 ≡ z → (l : Bool) → Held (record { book = (answered z l).book; stack = stacked d.stack back (answered z l).verdict })
+      go : (z : Bool) → eqb b.held 0 ≡ z → (l : Bool) → Held (moved_by d back (result_and (first_refusal (refuse z NothingHeld ∷ refuse l BookFull ∷ [])) (Ok (without_last b))))
       go true e l = h
       go false e true = h
       go false e false = taken_held (eqb-false b.held 0 e)
@@ -137,24 +140,24 @@ off_again s x =
     minus : length (s ++ (x ∷ [])) ≡ length s + 1 → length (s ++ (x ∷ [])) - 1 ≡ length s
     minus q = omega arith
 
-back_accepts : (c : Book) → (c.held ≡ 0 → ⊥) → c.held ≤ 64 → (take_back c).verdict ≡ Accepted
-unfolding take_back
-back_accepts c h k = rw (take_back, ne_eqb c.held 0 h, le-ltb 64 c.held k)
+back_accepts : (c : Book) → (c.held ≡ 0 → ⊥) → c.held ≤ 64 → take_back c ≡ Ok (without_last c)
+unfolding take_back book_long first_refusal refuse
+back_accepts c h k = rw (ne_eqb c.held 0 h, le-ltb 64 c.held k)
 
 -- One move of each kind, where it is accepted.
-put_stack : (d : Desk) (n : ℕ) (t : List ℤ) (work : ℕ) (x : ℤ) → (pin n t d.book work x).verdict ≡ Accepted → (move d (put n t work x)).stack ≡ d.stack ++ (x ∷ [])
+put_stack : (d : Desk) (n : ℕ) (t : List ℤ) (work : ℕ) (x : ℤ) (b : Book) → pin n t d.book work x ≡ Ok b → (move d (put n t work x)).stack ≡ d.stack ++ (x ∷ [])
 unfolding move answer stacked
-put_stack d n t work x e = rw e
+put_stack d n t work x b e = rw e
 
-back_stack : (d : Desk) → (take_back d.book).verdict ≡ Accepted → (move d back).stack ≡ take (length d.stack - 1) d.stack
+back_stack : (d : Desk) (b : Book) → take_back d.book ≡ Ok b → (move d back).stack ≡ take (length d.stack - 1) d.stack
 unfolding move answer stacked
-back_stack d e = rw e
+back_stack d b e = rw e
 
 pub take_back_undoes : TakeBackUndoes
 unfolding after
-take_back_undoes ms n t work x e =
+take_back_undoes ms n t work x b e =
     ap (λ (d : Desk). d.stack) (fold-append move opening ms (put n t work x ∷ back ∷ []))
-    ∙ back_stack d' (back_accepts d'.book (λ z. no (h.count ∙ ap length on) z) h.few) ∙ ap (λ s. take (length s - 1) s) on ∙ off_again d.stack x
+    ∙ back_stack d' _ (back_accepts d'.book (λ z. no (h.count ∙ ap length on) z) h.few) ∙ ap (λ s. take (length s - 1) s) on ∙ off_again d.stack x
   where
     d : Desk
     d = fold move opening ms
@@ -166,7 +169,7 @@ take_back_undoes ms n t work x e =
     h = step_held d (put n t work x) (night_held ms)
 
     on : d'.stack ≡ d.stack ++ (x ∷ [])
-    on = put_stack d n t work x e
+    on = put_stack d n t work x b e
 
     no : d'.book.held ≡ length (d.stack ++ (x ∷ [])) → d'.book.held ≡ 0 → ⊥
     no p z = omega (arith, length-append d.stack (x ∷ []))

@@ -1,52 +1,51 @@
 -- Tests in their order: where all accept, each does; where one refuses, it is one of them.
-use Prim.Native.Nat.{ℕ}
-use mathlib.Core.Path.{◌≡◌, refl, sym, ap}
-use mathlib.Core.Bool.{Bool, true, false}
-use mathlib.Core.List.{List, [], ◌∷◌, Memᴰ}
-use Rattle.ways.proofs.Bools.{clash_of}
-use Rattle.tables.specs.declared.Verdict.{Verdict}
-use Rattle.tables.specs.declared.Verdict.TheVariants.{Accepted, Refused}
-use Rattle.rules.specs.Calls.{refuse, first_refusal}
+use Rattle.std.proofs.Common.{◌≡◌, refl, sym, ap, Bool, true, false, List, [], ◌∷◌}
+use mathlib.Core.List.{Memᴰ}
+use Rattle.std.specs.Prelude.{Result, Ok, Err, is_ok}
+use Rattle.std.specs.Result.{result_and}
+use Rattle.std.proofs.lemmas.Bool.{true≢false}
+use Rattle.tables.specs.Numbers.{Verdict, number_of, answer_number, refuse, first_refusal}
+use Rattle.tables.specs.declared.numbers.Refusal.{Refusal}
 
-pub is_accepted : Verdict → Bool
-is_accepted Accepted = true
-is_accepted (Refused number place) = false
+pub never : {A T : Type 0} (x : T) (why : Refusal) → Err why ≡ Ok x → A
+never x why e = absurd (true≢false (sym (ap is_ok e)))
 
-pub never : {A : Type 0} (number place : ℕ) → Refused number place ≡ Accepted → A
-unfolding is_accepted
-never number place e = clash_of (sym (ap is_accepted e))
+-- An answer that stands behind a verdict: it is given where the verdict accepts, and refused as the verdict is.
+pub answered : {T : Type 0} (v : Verdict) (x y : T) → result_and v (Ok x) ≡ Ok y → (v ≡ Ok tt) × (x ≡ y)
+answered (Ok _) x y e = (refl, ap (value x) e)
+  where
+    value : {T : Type 0} → T → Result T Refusal → T
+    value x (Ok y) = y
+    value x (Err why) = x
+answered (Err why) x y e = never y why e
 
-pub number_of : Verdict → ℕ
-number_of Accepted = 0
-number_of (Refused number place) = number
+pub refused : {T : Type 0} (v : Verdict) (x : T) (why : Refusal) → result_and v (Ok x) ≡ Err why → v ≡ Err why
+refused (Ok _) x why e = never x why (sym e)
+refused (Err r) x why e = let again : Refusal → Verdict = λ y. Err y in ap again (ap (cause r) e)
+  where
+    cause : {T : Type 0} → Refusal → Result T Refusal → Refusal
+    cause r (Ok y) = r
+    cause r (Err why) = why
 
-pub place_of : Verdict → ℕ
-place_of Accepted = 0
-place_of (Refused number place) = place
-
-pub same_place : (c p number place : ℕ) → Refused c p ≡ Refused number place → p ≡ place
-unfolding place_of
-same_place c p number place e = ap place_of e
-
-pub all_accept : (vs : List Verdict) → first_refusal vs ≡ Accepted → (v : Verdict) → Memᴰ v vs → v ≡ Accepted
+pub all_accept : (vs : List Verdict) → first_refusal vs ≡ Ok tt → (v : Verdict) → Memᴰ v vs → v ≡ Ok tt
 unfolding first_refusal
 all_accept [] e v i = elim i [ ]
-all_accept (Accepted ∷ vs) e v (Memᴰ.head q) = q
-all_accept (Accepted ∷ vs) e v (Memᴰ.tail i) = all_accept vs e v i
-all_accept (Refused number place ∷ vs) e v i = never number place e
+all_accept (Ok _ ∷ vs) e v (Memᴰ.head q) = q
+all_accept (Ok _ ∷ vs) e v (Memᴰ.tail i) = all_accept vs e v i
+all_accept (Err why ∷ vs) e v i = never tt why e
 
-pub one_refuses : (vs : List Verdict) (number place : ℕ) → first_refusal vs ≡ Refused number place → Memᴰ (Refused number place) vs
+pub one_refuses : (vs : List Verdict) (why : Refusal) → first_refusal vs ≡ Err why → Memᴰ (Err why) vs
 unfolding first_refusal
-one_refuses [] number place e = never number place (sym e)
-one_refuses (Accepted ∷ vs) number place e = Memᴰ.tail (one_refuses vs number place e)
-one_refuses (Refused c p ∷ vs) number place e = Memᴰ.head (sym e)
+one_refuses [] why e = never tt why (sym e)
+one_refuses (Ok _ ∷ vs) why e = Memᴰ.tail (one_refuses vs why e)
+one_refuses (Err r ∷ vs) why e = Memᴰ.head (sym e)
 
-pub refuse_accepts : (b : Bool) (number place : ℕ) → refuse b number place ≡ Accepted → b ≡ false
+pub refuse_accepts : (b : Bool) (why : Refusal) → refuse b why ≡ Ok tt → b ≡ false
 unfolding refuse
-refuse_accepts true number place e = never number place e
-refuse_accepts false number place e = refl
+refuse_accepts true why e = never tt why e
+refuse_accepts false why e = refl
 
-pub refuse_number : (b : Bool) (c p number place : ℕ) → refuse b c p ≡ Refused number place → c ≡ number
-unfolding refuse number_of
-refuse_number true c p number place e = ap number_of e
-refuse_number false c p number place e = never number place (sym e)
+pub refuse_number : (b : Bool) (r why : Refusal) → refuse b r ≡ Err why → number_of r ≡ number_of why
+unfolding refuse
+refuse_number true r why e = ap answer_number e
+refuse_number false r why e = never tt why (sym e)

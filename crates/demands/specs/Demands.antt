@@ -1,9 +1,9 @@
 -- The statements. Each is a type, and a proof of it stands in proofs/ under the same name with small letters. An assignment
 -- is a row of values, 0 or 1, the first for variable 1; an equation of two tests says "exactly when".
-use Rattle.std.specs.Prelude.{ℕ, ◌+◌, ◌≤◌, ◌<◌, ◌≡◌, Bool, true, false, ◌&&◌, ℤ, length, get_or}
+use Rattle.std.specs.Prelude.{ℕ, ◌+◌, ◌≤◌, ◌<◌, ◌≡◌, Bool, true, false, ◌&&◌, List, ◌++◌, ℤ, length, get_or}
 use Rattle.std.specs.Bool.{beq}
-use mathlib.Core.List.{List, ◌++◌, flat_map, Memᴰ}
-use Rattle.std.specs.List.{list_all, filter, range_with_len}
+use mathlib.Core.List.{Memᴰ}
+use Rattle.std.specs.List.{list_all, filter, flat_map, range_with_len}
 use Rattle.ways.specs.Ways.{among}
 use Rattle.tables.specs.Literal.{var, holds, valued}
 use Rattle.tables.specs.Clause.{satisfies_all}

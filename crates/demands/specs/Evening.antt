@@ -1,15 +1,14 @@
 -- An evening that is settled: the situation that most statements speak of. It assumes nothing but that the table and the
 -- pins are in 01's sizes, and that the rounds end without a contradiction.
-use Rattle.std.specs.Prelude.{ℕ, ◌≡◌, true, not, List, ℤ}
+use Rattle.std.specs.Prelude.{ℕ, ◌≡◌, true, not, List, ℤ, Ok}
 use Rattle.std.specs.List.{list_all}
 use Rattle.tables.specs.Check.{checked}
-use Rattle.tables.specs.declared.Verdict.TheVariants.{Accepted}
 use Rattle.rules.specs.Rounds.{settled, outcome, pinned}
 use Rattle.rules.specs.Pins.{out_of_range}
 
 -- n variables, a table, and pins in range.
 pub record Lent (n : ℕ) (table pins : List ℤ) : Type 0 where
-  pub good : checked n table ≡ Accepted
+  pub good : checked n table ≡ Ok tt
   pub in_range : list_all (λ x. not (out_of_range n x)) pins ≡ true
 
 -- The rounds over the table with its pins are r in number and leave st, what each variable stands for, and cs, the settled

@@ -1,28 +1,26 @@
 -- A night at the desk: any run of pins and take-backs from an empty book, beside a plain stack of the accepted pins.
-use Rattle.std.specs.Prelude.{ℕ, ◌-◌, ◌≡◌, List, [], ◌∷◌, ◌++◌, length, take, ℤ}
+use Rattle.std.specs.Prelude.{ℕ, ◌-◌, ◌≡◌, List, [], ◌∷◌, ◌++◌, length, take, ℤ, Result, Ok, Err}
 use Rattle.std.specs.List.{fold}
-use Rattle.tables.specs.declared.Verdict.{Verdict}
-use Rattle.tables.specs.declared.Verdict.TheVariants.{Accepted, Refused}
-use Rattle.rules.specs.Pins.{in_force, empty_book, take_back}
+use Rattle.tables.specs.declared.numbers.Refusal.{Refusal}
+use Rattle.rules.specs.Pins.{in_force, empty_book, take_back, book_after}
 use Rattle.rules.specs.Calls.{build, build_listing, pin}
-use Rattle.rules.specs.declared.Book.{Book}
-use Rattle.rules.specs.declared.Booked.{Booked}
+use Rattle.rules.specs.declared.book.Book.{Book}
 
 -- A pin of a literal, with the table and the length of the work buffer that are lent for it; or a take-back.
 pub data Move : Type 0 where
   put : ℕ → List ℤ → ℕ → ℤ → Move
   back : Move
 
-unfoldable pub answer : Book → Move → Booked
+unfoldable pub answer : Book → Move → Result Book Refusal
 answer b (put n t work x) = pin n t b work x
 answer b back = take_back b
 
 -- "the pins in force are those that a plain stack of the accepted ones holds": an accepted pin is laid on top, an accepted
 -- take-back takes the top away, and what is refused changes nothing.
-unfoldable pub stacked : List ℤ → Move → Verdict → List ℤ
-stacked pins m (Refused number place) = pins
-stacked pins (put n t work x) Accepted = pins ++ (x ∷ [])
-stacked pins back Accepted = take (length pins - 1) pins
+unfoldable pub stacked : List ℤ → Move → Result Book Refusal → List ℤ
+stacked pins m (Err why) = pins
+stacked pins (put n t work x) (Ok b) = pins ++ (x ∷ [])
+stacked pins back (Ok b) = take (length pins - 1) pins
 
 pub record Desk : Type 0 where
   pub book : Book
@@ -32,7 +30,7 @@ unfoldable pub opening : Desk
 opening = record { book = empty_book; stack = [] }
 
 unfoldable pub move : Desk → Move → Desk
-move d m = record { book = (answer d.book m).book; stack = stacked d.stack m (answer d.book m).verdict }
+move d m = record { book = book_after d.book (answer d.book m); stack = stacked d.stack m (answer d.book m) }
 
 unfoldable pub after : List Move → Desk
 after ms = fold move opening ms
@@ -51,5 +49,5 @@ StackDecides =
 
 abbrev pub TakeBackUndoes : Type 0
 TakeBackUndoes =
-    (ms : List Move) (n : ℕ) (t : List ℤ) (work : ℕ) (x : ℤ) → (pin n t (after ms).book work x).verdict ≡ Accepted
+    (ms : List Move) (n : ℕ) (t : List ℤ) (work : ℕ) (x : ℤ) (b : Book) → pin n t (after ms).book work x ≡ Ok b
     → (after (ms ++ (put n t work x ∷ back ∷ []))).stack ≡ (after ms).stack

@@ -1,25 +1,22 @@
 -- The evenings: 01's starred cases, its example of road 4, its night with the pin book, and one case for each slip "that a yard
 -- would not notice" and that none of those shows. One list, and one statement that runs the definitions over it: what the
 -- builder prints, byte for byte.
-use Rattle.std.specs.Prelude.{ℕ, ◌≡◌, refl, ℤ, pos, negsuc}
+use Rattle.std.specs.Prelude.{ℕ, ◌≡◌, refl, Bool, true, List, [], ◌∷◌, ◌++◌, ℤ, pos, negsuc, Result, Ok, Err, codes}
+use Rattle.std.specs.List.{list_all}
 use Prim.Native.String.{String}
-use mathlib.Core.Bool.{Bool, true, false}
-use mathlib.Core.List.{List, [], ◌∷◌, ◌++◌}
-use Rattle.std.specs.List.{fold, list_any, list_all, filter, range_with_len}
-use Rattle.std.specs.Fn.{iterate}
-use Rattle.ways.specs.Ways.{oddly, has, same, among}
-use Rattle.ways.specs.Letters.{letters}
+use Rattle.ways.specs.Ways.{same}
 use Rattle.tables.specs.Sizes.{most_bytes, work_room}
+use Rattle.tables.specs.Numbers.{refuse, first_refusal}
 use Rattle.tables.specs.Literal.{literal, var, neg, entry, opp, holds, valued}
 use Rattle.tables.specs.Clause.{clauses_from, clauses, void, satisfies, satisfies_all}
 use Rattle.tables.specs.Check.{check_from, checked}
-use Rattle.texts.specs.Buffer.{front}
-use Rattle.texts.specs.Bytes.{blank, solid, feed, before}
+use Rattle.texts.specs.Buffer.{front, leaves}
+use Rattle.texts.specs.Bytes.{blank, solid, feed}
 use Rattle.texts.specs.Tokens.{tokens_from}
-use Rattle.texts.specs.Numbers.{digits, natural, plain, minus, number, under}
+use Rattle.texts.specs.Numbers.{digits, natural, plain, minus, number}
 use Rattle.texts.specs.Header.{remarks, no_more, size_c, size_v, word_cnf, word_p, header_at, header}
-use Rattle.texts.specs.Body.{fault, body_from, said, entry_of}
-use Rattle.texts.specs.Reading.{behind, counted, judged, verdict, roomed, reading, row_by, row_after}
+use Rattle.texts.specs.Body.{judged_number, body_from, entry_of}
+use Rattle.texts.specs.Reading.{behind, judged, verdict, roomed, reading, row_after}
 use Rattle.texts.specs.Decimal.{digits_of, decimal, signed}
 use Rattle.rules.specs.Forced.{marked, forces, force_at, force_in, pass, forced, clash, empty, contradicts}
 use Rattle.rules.specs.Clean.{insert, tidy_step, tidy, add, clean_step, clean}
@@ -32,13 +29,11 @@ use Rattle.rules.specs.Circuit.{in_pattern, residue, free, highest, level_step, 
 use Rattle.rules.specs.Fill.{bit, fill_step, fill_gates, filled}
 use Rattle.rules.specs.Ask.{ask_root, asked}
 use Rattle.rules.specs.Listing.{line, line_b, line_f, line_l, input_field, line_g, gates_at, lines_g, line_v, line_r, listing, line_x}
-use Rattle.rules.specs.Pins.{in_force, empty_book, out_of_range, with_pin, without_last, take_back}
-use Rattle.rules.specs.Calls.{refuse, first_refusal, work_short, book_long, held_bad, outcome_of, contradiction, rounds_in, stands_in, gates_in, listed, leaves, wiped, build_verdict, built_as, build, build_listing, bad_values, bad_value, fill_verdict, fill_values, ask_verdict, asked_as, ask, pin_verdict, booked_as, pin, verdict_numbers, built_numbers, asked_numbers}
+use Rattle.rules.specs.Pins.{in_force, empty_book, out_of_range, with_pin, without_last, book_long, take_back, book_after}
+use Rattle.rules.specs.Calls.{work_short, held_bad, outcome_of, contradiction, rounds_in, stands_in, gates_in, listed, wiped, build_verdict, build, build_listing, bad_values, bad_value, fill_verdict, fill_values, ask_verdict, ask, pin_verdict, pin}
 use Rattle.rules.specs.Program.{printed, program_on, program}
-use Rattle.tables.specs.declared.Verdict.{Verdict}
-use Rattle.tables.specs.declared.Verdict.TheVariants.{Accepted, Refused}
-use Rattle.rules.specs.declared.Book.{Book}
-use Rattle.rules.specs.declared.Booked.{Booked}
+use Rattle.tables.specs.declared.numbers.Refusal.{Refusal}
+use Rattle.rules.specs.declared.book.Book.{Book}
 
 -- Entries, as 01 writes them.
 abbrev +0 : ℤ
@@ -134,25 +129,22 @@ evenings =
 pub shown : ℕ → List ℤ → Book → List ℕ
 shown n t b = printed (listed n (outcome_of n t b)) (build n t b work_room most_bytes)
 
-pub answers : ℕ → List ℤ → Booked → List ℕ
-answers n t a = on_verdict a.verdict
-  where
-    on_verdict : Verdict → List ℕ
-    on_verdict Accepted = shown n t a.book
-    on_verdict (Refused number place) = line_x number place
+pub answers : ℕ → List ℤ → Result Book Refusal → List ℕ
+answers n t (Ok b) = shown n t b
+answers n t (Err why) = line_x why
 
-pub moved : ℕ → List ℤ → Book → Move → Booked
+pub moved : ℕ → List ℤ → Book → Move → Result Book Refusal
 moved n t b (put x) = pin n t b work_room x
 moved n t b back = take_back b
 
 pub night : ℕ → List ℤ → Book → List Move → List ℕ
 night n t b [] = []
-night n t b (m ∷ ms) = answers n t (moved n t b m) ++ night n t (moved n t b m).book ms
+night n t b (m ∷ ms) = answers n t (moved n t b m) ++ night n t (book_after b (moved n t b m)) ms
 
 pub right : Evening → Bool
-right (lent n t ms prints) = same (shown n t empty_book ++ night n t empty_book ms) (letters prints)
-right (text source prints) = same (program (letters source)) (letters prints)
+right (lent n t ms prints) = same (shown n t empty_book ++ night n t empty_book ms) (codes prints)
+right (text source prints) = same (program (codes source)) (codes prints)
 
 pub all_right : list_all right evenings ≡ true
-unfolding letters evenings right night moved answers shown literal var neg entry opp holds valued clauses_from clauses void satisfies satisfies_all check_from checked front blank solid feed before tokens_from digits natural plain minus number under remarks no_more size_c size_v word_cnf word_p header_at header fault body_from said entry_of behind counted judged verdict roomed reading row_by row_after digits_of decimal signed marked forces force_at force_in pass forced clash empty contradicts insert tidy_step tidy add clean_step clean pairs stands replace alone starting give_way meet join leaders torn fixed root linked paired cleaned round after rounds outcome pinned kinds no_kind kind_row signs and_kind parity_kind rule others side and_inputs and_form signings odd group parity first_of anchors found candidates touched depend_step dependents is_output allowed place take_first take_at taken_by taken in_pattern residue free highest level_step levels bit fill_step fill_gates filled ask_root asked line line_b line_f line_l input_field line_g gates_at lines_g line_v line_r listing line_x in_force empty_book out_of_range with_pin without_last take_back refuse first_refusal work_short book_long held_bad outcome_of contradiction rounds_in stands_in gates_in listed leaves wiped build_verdict built_as build build_listing bad_values bad_value fill_verdict fill_values ask_verdict asked_as ask pin_verdict booked_as pin verdict_numbers built_numbers asked_numbers printed program_on program mathlib.Core.List.flat_map mathlib.Core.Bool.xor
+unfolding refuse first_refusal evenings right night moved answers shown literal var neg entry opp holds valued clauses_from clauses void satisfies satisfies_all check_from checked front blank solid feed tokens_from digits natural plain minus number remarks no_more size_c size_v word_cnf word_p header_at header judged_number body_from entry_of behind judged verdict roomed reading row_after digits_of decimal signed marked forces force_at force_in pass forced clash empty contradicts insert tidy_step tidy add clean_step clean pairs stands replace alone starting give_way meet join leaders torn fixed root linked paired cleaned round after rounds outcome pinned kinds no_kind kind_row signs and_kind parity_kind rule others side and_inputs and_form signings odd group parity first_of anchors found candidates touched depend_step dependents is_output allowed place take_first take_at taken_by taken in_pattern residue free highest level_step levels bit fill_step fill_gates filled ask_root asked line line_b line_f line_l input_field line_g gates_at lines_g line_v line_r listing line_x in_force empty_book out_of_range with_pin without_last book_long take_back work_short held_bad outcome_of contradiction rounds_in stands_in gates_in listed leaves wiped build_verdict build build_listing bad_values bad_value fill_verdict fill_values ask_verdict ask pin_verdict pin printed program_on program mathlib.Core.Bool.xor
 all_right = refl

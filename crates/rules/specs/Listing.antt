@@ -1,10 +1,10 @@
 -- The listing: one record a line.
-use Rattle.std.specs.Prelude.{ℕ, Bool, cond, ◌&&◌, length, get_or, eqb}
+use Rattle.std.specs.Prelude.{ℕ, Bool, cond, ◌&&◌, List, [], ◌∷◌, ◌++◌, map, length, get_or, eqb, codes}
 use Prim.Native.String.{String}
-use mathlib.Core.List.{List, [], ◌∷◌, ◌++◌, map, flat_map}
-use Rattle.std.specs.List.{filter, range_with_len}
-use Rattle.ways.specs.Letters.{letters}
+use Rattle.std.specs.List.{filter, flat_map, range_with_len}
+use Rattle.tables.specs.Numbers.{number_of, place_of}
 use Rattle.tables.specs.Literal.{var}
+use Rattle.tables.specs.declared.numbers.Refusal.{Refusal}
 use Rattle.texts.specs.Decimal.{decimal, signed}
 use Rattle.rules.specs.Pairs.{stands, fixed, linked}
 use Rattle.rules.specs.Kinds.{kind_row}
@@ -13,7 +13,7 @@ use Rattle.rules.specs.Circuit.{residue, free, levels}
 
 -- "One record a line, fields parted by tabs (shown as spaces here), each line ended by LF"
 unfoldable pub line : String → List (List ℕ) → List ℕ
-line tag fields = letters tag ++ (flat_map (λ f. letters "\t" ++ f) fields ++ letters "\n")
+line tag fields = codes tag ++ (flat_map (λ f. codes "\t" ++ f) fields ++ codes "\n")
 
 -- "B: variables, rounds, fixed, linked, gates, free, residue clauses."
 unfoldable pub line_b : ℕ → ℕ → List ℕ → List (List ℕ) → List Gate → List ℕ
@@ -33,7 +33,7 @@ unfoldable pub input_field : ℕ → ℕ → List ℕ
 input_field k x = cond (eqb (kind_row k).input_signs 2) (signed x) (decimal (var x))
 
 unfoldable pub line_g : ℕ → Gate → List ℕ
-line_g level g = line "G" (decimal level ∷ letters (kind_row g.kind).name ∷ decimal g.output ∷ map (input_field g.kind) g.inputs)
+line_g level g = line "G" (decimal level ∷ codes (kind_row g.kind).name ∷ decimal g.output ∷ map (input_field g.kind) g.inputs)
 
 -- "by level, then output": level after level, and on each the gates by rising output.
 unfoldable pub gates_at : ℕ → List Gate → ℕ → ℕ → List Gate
@@ -60,5 +60,5 @@ listing n r st cs gs =
     ++ flat_map line_r (residue gs cs)
 
 -- "or one such line with `X`, number, place"
-unfoldable pub line_x : ℕ → ℕ → List ℕ
-line_x number place = line "X" (decimal number ∷ decimal place ∷ [])
+unfoldable pub line_x : Refusal → List ℕ
+line_x why = line "X" (decimal (number_of why) ∷ decimal (place_of why) ∷ [])

@@ -1,10 +1,12 @@
 -- The pin book.
-use Rattle.std.specs.Prelude.{ℕ, ◌+◌, ◌-◌, Bool, true, false, ◌||◌, List, ℤ, pos, set, take, replicate, eqb, ltb}
+use Rattle.std.specs.Prelude.{ℕ, ◌+◌, ◌-◌, Bool, ◌||◌, List, [], ◌∷◌, ℤ, pos, set, take, replicate, eqb, ltb, Result, Ok}
+use Rattle.std.specs.Result.{result_and, result_unwrap_or}
 use Rattle.tables.specs.Sizes.{most_pins}
+use Rattle.tables.specs.Numbers.{Verdict, refuse, first_refusal}
 use Rattle.tables.specs.Literal.{literal, var}
-use Rattle.tables.specs.declared.Verdict.TheVariants.{Accepted, Refused}
-use Rattle.rules.specs.declared.Book.{Book}
-use Rattle.rules.specs.declared.Booked.{Booked}
+use Rattle.tables.specs.declared.numbers.Refusal.{Refusal}
+use Rattle.tables.specs.declared.numbers.Refusal.TheVariants.{BookFull, NothingHeld}
+use Rattle.rules.specs.declared.book.Book.{Book}
 
 -- "The pin book is one record that a pin or a take-back changes." The pins in force are its first places.
 unfoldable pub in_force : Book → List ℤ
@@ -25,13 +27,14 @@ with_pin b x = record { pins = set b.pins b.held x; held = b.held + 1 }
 unfoldable pub without_last : Book → Book
 without_last b = record { pins = set b.pins (b.held - 1) (pos 0); held = b.held - 1 }
 
--- "A take-back reads the book only: 7 at length 0, 6 above 64."
-unfoldable pub take_back : Book → Booked
-take_back b =
-    elim (eqb b.held 0) [
-      | true ↦ record { verdict = Refused 7 0; book = b }
-      | false ↦ elim (ltb most_pins b.held) [
-        | true ↦ record { verdict = Refused 6 most_pins; book = b }
-        | false ↦ record { verdict = Accepted; book = without_last b }
-      ]
-    ]
+-- "6 | .. its length is above 64"
+unfoldable pub book_long : Book → Verdict
+book_long b = refuse (ltb most_pins b.held) BookFull
+
+-- "A take-back reads the book only: 7 at length 0, 6 above 64." A pin and a take-back answer with the book that comes back.
+unfoldable pub take_back : Book → Result Book Refusal
+take_back b = result_and (first_refusal (refuse (eqb b.held 0) NothingHeld ∷ book_long b ∷ [])) (Ok (without_last b))
+
+-- "A refusal leaves .. pin book as found."
+abbrev pub book_after : Book → Result Book Refusal → Book
+book_after b answer = result_unwrap_or answer b

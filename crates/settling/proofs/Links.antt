@@ -7,7 +7,7 @@ use native.Mathlib.Omega.{arith}
 use lib.ListN.{length, get_or}
 use lib.Dec.{eqb, ltb}
 use borrow.Author.Tests.{eqb-true, not-true}
-use Rattle.std.specs.List.{list_any, range_with_len}
+use Rattle.std.specs.List.{range_with_len}
 use Rattle.ways.specs.Ways.{among}
 use Rattle.std.proofs.lemmas.Bool.{and_parts}
 use Rattle.ways.proofs.Bools.{clash_of}

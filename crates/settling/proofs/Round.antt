@@ -9,7 +9,7 @@ use native.Mathlib.Omega.{arith}
 use lib.ListN.{length, get_or, length-map, get_or-eq_default}
 use lib.Dec.{eqb, ltb, eqb-suc-zero}
 use borrow.Author.Tests.{eqb-true, not-true, ltb-true, ltb-false}
-use Rattle.std.specs.List.{fold, list_any, range_with_len}
+use Rattle.std.specs.List.{list_any, range_with_len}
 use Rattle.ways.specs.Ways.{among}
 use Rattle.std.proofs.lemmas.Bool.{and_parts}
 use Rattle.std.proofs.lemmas.List.{get_or-map}

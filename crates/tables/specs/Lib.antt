@@ -1,5 +1,6 @@
--- Tables of clauses, in 01's order.
+-- Tables of clauses, in the order of the rules.
 pub mod Sizes
+pub mod Numbers
 pub mod Literal
 pub mod Clause
 pub mod Check

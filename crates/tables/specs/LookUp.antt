@@ -1,9 +1,8 @@
 -- The look-up of one clause.
-use Rattle.std.specs.Prelude.{ℕ, zero, suc, ◌+◌, true, false, List, [], ◌∷◌, ℤ, length, take, drop, eqb}
+use Rattle.std.specs.Prelude.{ℕ, zero, suc, ◌+◌, true, false, List, [], ◌∷◌, ℤ, length, take, drop, eqb, Ok, Err}
+use Rattle.tables.specs.Numbers.{Verdict}
 use Rattle.tables.specs.Literal.{literal}
 use Rattle.tables.specs.Check.{checked}
-use Rattle.tables.specs.declared.Verdict.{Verdict}
-use Rattle.tables.specs.declared.Verdict.TheVariants.{Accepted, Refused}
 
 -- The length of the first clause of a row, with its ending zero.
 unfoldable pub clause_length : List ℤ → ℕ
@@ -18,8 +17,8 @@ start_of (suc k) t = clause_length t + start_of k (drop (clause_length t) t)
 -- "Asked for clause number k, from 0, the look-up returns that stretch itself with its ending zero; for no such clause or
 -- a table that 2 or 3 refuses, the empty stretch at the table's end."
 unfoldable pub start_in : List ℤ → ℕ → Verdict → ℕ
-start_in t k Accepted = start_of k t
-start_in t k (Refused number place) = length t
+start_in t k (Ok _) = start_of k t
+start_in t k (Err why) = length t
 
 unfoldable pub look_start : ℕ → List ℤ → ℕ → ℕ
 look_start n t k = start_in t k (checked n t)

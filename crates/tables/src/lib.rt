@@ -1,9 +1,4 @@
-// Tables of clauses: no code, only the answer of a check.
+// Tables of clauses: the sizes, the numbers of the refusals, literals, clauses, the table check and the look-up.
 #![tactic(auto)]
 
-// Accepted, or refused with 01's number and the place.
-#[derive(Clone, Copy)]
-pub enum Verdict {
-    Accepted,
-    Refused(u32, usize),
-}
+pub mod numbers;

@@ -1,5 +1,6 @@
 -- The bytes that clause text gives a meaning to, and the search for the next byte of a kind.
-use Rattle.std.specs.Prelude.{ℕ, suc, Bool, true, false, ◌||◌, not, List, [], ◌∷◌, eqb}
+use Rattle.std.specs.Prelude.{ℕ, Bool, ◌||◌, not, List, eqb}
+use Rattle.std.specs.List.{prefix_len}
 
 -- "space, tab, CR, LF"
 unfoldable pub blank : ℕ → Bool
@@ -11,17 +12,12 @@ solid b = not (blank b)
 unfoldable pub feed : ℕ → Bool
 feed b = eqb b 10
 
--- How many bytes stand before the first one that passes a test, or before the end.
-unfoldable pub before : (ℕ → Bool) → List ℕ → ℕ
-before test [] = 0
-before test (b ∷ bs) = elim (test b) [ true ↦ 0 | false ↦ suc (before test bs) ]
-
 -- The bytes before the next token, those of a token, those of a line.
 abbrev pub gap : List ℕ → ℕ
-gap = before solid
+gap = prefix_len blank
 
 abbrev pub word : List ℕ → ℕ
-word = before blank
+word = prefix_len solid
 
 abbrev pub line : List ℕ → ℕ
-line = before feed
+line = prefix_len (λ b. not (feed b))

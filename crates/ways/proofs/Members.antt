@@ -1,15 +1,15 @@
 -- Laws of membership: in rows of numbers, in rows of rows, in ranges, and at a place.
 use Prim.Native.Nat.{ℕ, zero, suc, ◌+◌, ◌≤◌, ◌<◌}
-use mathlib.Core.Path.{◌≡◌, refl, sym, ap, subst}
+use mathlib.Core.Path.{◌≡◌, refl, sym, subst}
 use mathlib.Core.Bool.{Bool, true, false}
 use mathlib.Core.List.Memᴰ
-use mathlib.Core.List.{List, [], ◌∷◌, map, flat_map, Memᴰ}
+use mathlib.Core.List.{List, [], ◌∷◌, map, Memᴰ}
 use mathlib.Core.Logic.{⊎_elim}
 use native.Mathlib.Omega.{arith}
 use lib.ListN.{length, get_or}
 use lib.Dec.{eqb}
 use borrow.Author.Tests.{eqb-true, eqb-false, eq-eqb}
-use Rattle.std.specs.List.{range_with_len}
+use Rattle.std.specs.List.{flat_map, range_with_len}
 use Rattle.ways.specs.Ways.{has, same, among}
 use Rattle.std.proofs.lemmas.Bool.{and_parts}
 use Rattle.ways.proofs.Bools.{clash_of}
@@ -46,13 +46,11 @@ map-mem f xs y i = let (x, j, e) = Memᴰ.of_map f xs i in (x, j, sym e)
 
 -- What stands in the rows of a row's elements, joined: it stands in one of them.
 pub flat_mem : {X Y : Type 0} (f : X → List Y) (xs : List X) (y : Y) → Memᴰ y (flat_map f xs) → (x : X) × Memᴰ x xs × Memᴰ y (f x)
-unfolding flat_map
 flat_mem f [] y i = absurd (Memᴰ.not-nil i)
 flat_mem f (x ∷ xs) y i =
     ⊎_elim (λ j. (x, Memᴰ.head refl, j)) (λ j. let (z, k, h) = flat_mem f xs y j in (z, Memᴰ.tail k, h)) (Memᴰ.append_cases (f x) i)
 
 pub mem_flat : {X Y : Type 0} (f : X → List Y) (xs : List X) (x : X) (y : Y) → Memᴰ x xs → Memᴰ y (f x) → Memᴰ y (flat_map f xs)
-unfolding flat_map
 mem_flat {X = X} {Y = Y} f [] x y i j = elim i [ ]
 mem_flat f (z ∷ xs) x y (Memᴰ.head e) j = Memᴰ.append_left (flat_map f xs) (subst (λ w. Memᴰ y (f w)) e j)
 mem_flat f (z ∷ xs) x y (Memᴰ.tail i) j = Memᴰ.append_right (f z) (mem_flat f xs x y i j)

@@ -1,3 +1,2 @@
 -- The ways of going through a row.
 pub mod Ways
-pub mod Letters
