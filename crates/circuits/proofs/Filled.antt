@@ -17,7 +17,6 @@ use Rattle.circuits.proofs.Order.{Ordered, none, next}
 
 -- A row of values with one value changed.
 pub valued_other : (values : List ℕ) (o v b : ℕ) → 1 ≤ o → (v ≡ o → ⊥) → valued (set values (o - 1) b) v ≡ valued values v
-unfolding valued
 valued_other values o zero b h n = refl
 valued_other values o (suc v) b h n = ap (λ t. eqb t 1) (get_or-set_other values (o - 1) v b 0 (λ e. n (up e)))
   where
@@ -25,7 +24,6 @@ valued_other values o (suc v) b h n = ap (λ t. eqb t 1) (get_or-set_other value
     up e = omega arith
 
 pub valued_same : (values : List ℕ) (o b : ℕ) → 1 ≤ o → o ≤ length values → valued (set values (o - 1) b) o ≡ eqb b 1
-unfolding valued
 valued_same values zero b h l = absurd (no h)
   where
     no : 1 ≤ 0 → ⊥

@@ -123,7 +123,7 @@ module _ (a : ℕ → Bool) where
       go false = not_some xs
 
   pub and_meets : (c : List ℕ) (o : ℕ) → Memᴰ o c → (satisfies_all a (and_form c o).pattern ≡ true) ↔ Meets (and_form c o)
-  unfolding satisfies_all and_form holds
+  unfolding satisfies_all and_form
   and_meets c o i = iff _ (a (var o)) _ (rw (others_sat c o i, sides_sat o (others o c)) (table (neg o) (a (var o)) (satisfies a (others o c)) ∙ ap (beq (a (var o))) (sym (and_value c o))))
     where
       table : (b v s : Bool) → ((cond b (not v) v || s) && (not (cond b (not v) v) || not s)) ≡ beq v (cond b s (not s))

@@ -145,7 +145,6 @@ module _ (n : ℕ) (st : List ℕ) (cs : List (List ℕ)) (set : Settled n st cs
     on_root v e = ap (holds end) e ∙ holds_pos end v
 
     end_zero : end 0 ≡ false
-    unfolding valued
     end_zero = refl
 
     pub through_zero : through 0 ≡ false
@@ -197,7 +196,7 @@ module _ (n : ℕ) (st : List ℕ) (cs : List (List ℕ)) (set : Settled n st cs
 
     -- What a fill writes, as an assignment.
     pub filled_value : (v : ℕ) → 1 ≤ v → v ≤ n → valued (filled n st gates given) v ≡ through v
-    unfolding valued filled fill_gates through
+    unfolding filled fill_gates through
     filled_value zero h k = absurd (no h)
       where
         no : 1 ≤ 0 → ⊥
@@ -211,7 +210,7 @@ module _ (n : ℕ) (st : List ℕ) (cs : List (List ℕ)) (set : Settled n st cs
 
     -- A row of n values that has the values of the filled-in row is it.
     pub filled_row : (values : List ℕ) → length values ≡ n → ((v : ℕ) → Memᴰ v values → v ≤ 1) → ((v : ℕ) → 1 ≤ v → v ≤ n → through v ≡ valued values v) → filled n st gates given ≡ values
-    unfolding filled fill_gates through valued
+    unfolding filled fill_gates through
     filled_row values size bits same =
         ext_get_or 0 (filled n st gates given) values (length-map (range_with_len 1 n) (λ v. bit (holds end (stands st v))) ∙ length-range_with_len 1 n ∙ sym size)
         (λ i h. let k : i < n = rw (length-map (range_with_len 1 n) (λ v. bit (holds end (stands st v))) ∙ length-range_with_len 1 n) at h in

@@ -52,7 +52,6 @@ of_beq false true e = e
 of_beq false false e = refl
 
 zero_value : (values : List ℕ) → valued values 0 ≡ false
-unfolding valued
 zero_value values = refl
 
 stands_beyond : (n : ℕ) (st : List ℕ) → length st ≡ suc n → (u : ℕ) → n < u → stands st u ≡ 2 * u

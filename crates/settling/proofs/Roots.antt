@@ -89,7 +89,7 @@ module _ (lo hi : ℕ) where
     way_in R p h v r = ⊎_elim (λ e. rw e p) (⊎_elim (λ e. rw e.0 (h v r)) (λ e. rw e.0 r)) (moved v)
 
     way_const : (v : ℕ) → stands s v < 2 → stands s' v ≡ stands s v
-    unfolding s' stands var
+    unfolding s' stands
     way_const v h = map_fix (give_way lo hi) s v (2 * v) (way_other (get_or s v (2 * v)) (λ e. no e))
       where
         no : get_or s v (2 * v) / 2 ≡ hi / 2 → ⊥

@@ -12,27 +12,22 @@ use Rattle.tables.specs.Literal.{literal, entry, var, neg, opp, holds}
 
 -- The two literals of a variable.
 pub var_pos : (v : ℕ) → var (2 * v) ≡ v
-unfolding var
 var_pos v = omega arith
 
 pub var-neg : (v : ℕ) → var (2 * v + 1) ≡ v
-unfolding var
 var-neg v = omega arith
 
 pub neg_pos : (v : ℕ) → neg (2 * v) ≡ false
-unfolding neg
 neg_pos v = ne_eqb ((2 * v) % 2) 1 no
   where
     no : (2 * v) % 2 ≡ 1 → ⊥
     no e = omega arith
 
 pub neg-neg : (v : ℕ) → neg (2 * v + 1) ≡ true
-unfolding neg
 neg-neg v = eq-eqb ((2 * v + 1) % 2) 1 (omega arith)
 
 -- Each literal is one of the two, and its opposite the other.
 pub two_forms : (l : ℕ) → ((l ≡ 2 * var l) × (opp l ≡ 2 * var l + 1)) ⊎ ((l ≡ 2 * var l + 1) × (opp l ≡ 2 * var l))
-unfolding var opp neg
 two_forms l = go (eqb (l % 2) 1) refl
   where
     go : (b : Bool) → eqb (l % 2) 1 ≡ b
@@ -42,7 +37,6 @@ two_forms l = go (eqb (l % 2) 1) refl
 
 -- The opposite in arithmetic, as a program computes it.
 pub opp_is : (l : ℕ) → opp l ≡ l + 1 - 2 * (l % 2)
-unfolding opp neg
 opp_is l = go (eqb (l % 2) 1) refl
   where
     go : (b : Bool) → eqb (l % 2) 1 ≡ b → cond b (l - 1) (l + 1) ≡ l + 1 - 2 * (l % 2)
@@ -50,11 +44,9 @@ opp_is l = go (eqb (l % 2) 1) refl
     go false e = let h : l % 2 ≡ 1 → ⊥ = eqb-false _ _ e in omega arith
 
 pub var-opp : (l : ℕ) → var (opp l) ≡ var l
-unfolding var
 var-opp l = rw (opp_is l) (omega arith)
 
 pub neg-opp : (l : ℕ) → neg (opp l) ≡ not (neg l)
-unfolding opp neg
 neg-opp l = go (eqb (l % 2) 1) refl
   where
     go : (b : Bool) → eqb (l % 2) 1 ≡ b → eqb (cond b (l - 1) (l + 1) % 2) 1 ≡ not b
@@ -99,33 +91,26 @@ same_var l k e =
 
 -- The numbers of a variable from 1 to n.
 pub low_var : (l : ℕ) → l < 2 → var l ≡ 0
-unfolding var
 low_var l h = omega arith
 
 pub var_one : (l : ℕ) → (l ≡ 0 → ⊥) → (l ≡ 1 → ⊥) → 1 ≤ var l
-unfolding var
 var_one l h k = omega arith
 
 pub var_mono : (x y : ℕ) → x < y → var x ≤ var y
-unfolding var
 var_mono x y h = omega arith
 
 pub high_literal : (l n : ℕ) → var l ≤ n → l < 2 * n + 2
-unfolding var
 high_literal l n h = omega arith
 
 -- Truth.
 module _ (a : ℕ → Bool) where
   pub holds_pos : (v : ℕ) → holds a (2 * v) ≡ a v
-  unfolding holds
   holds_pos v = rw (neg_pos v, var_pos v)
 
   pub holds-neg : (v : ℕ) → holds a (2 * v + 1) ≡ not (a v)
-  unfolding holds
   holds-neg v = rw (neg-neg v, var-neg v)
 
   pub holds-opp : (l : ℕ) → holds a (opp l) ≡ not (holds a l)
-  unfolding holds
   holds-opp l = rw (neg-opp l, var-opp l) (go (neg l) (a (var l)))
     where
       go : (b v : Bool) → cond (not b) (not v) v ≡ not (cond b (not v) v)
@@ -133,30 +118,24 @@ module _ (a : ℕ → Bool) where
       go false v = refl
 
   pub holds_by : (l : ℕ) → holds a l ≡ cond (neg l) (not (a (var l))) (a (var l))
-  unfolding holds
   holds_by l = refl
 
   -- The numbers 0 and 1, where variable 0 has the value 0.
   pub holds_zero : a 0 ≡ false → holds a 0 ≡ false
-  unfolding holds neg var
   holds_zero z = z
 
   pub holds_one : a 0 ≡ false → holds a 1 ≡ true
-  unfolding holds neg var
   holds_one z = rw z
 
 pub holds_alike : (a b : ℕ → Bool) (l : ℕ) → a (var l) ≡ b (var l) → holds a l ≡ holds b l
-unfolding holds
 holds_alike a b l e = rw e
 
 -- Entries and the numbers of literals.
 pub entry-literal : (z : ℤ) → entry (literal z) ≡ z
-unfolding entry literal
 entry-literal (pos v) = rw (neg_pos v, var_pos v)
 entry-literal (negsuc v) = rw (neg-neg (suc v), var-neg (suc v))
 
 pub literal-entry : (l : ℕ) → (l ≡ 1 → ⊥) → literal (entry l) ≡ l
-unfolding entry literal
 literal-entry l h = go (var l) (neg l) refl (two_forms l) h
   where
     go : (v : ℕ) (b : Bool) → neg l ≡ b → ((l ≡ 2 * v) × (opp l ≡ 2 * v + 1)) ⊎ ((l ≡ 2 * v + 1) × (opp l ≡ 2 * v)) → (l ≡ 1 → ⊥)
@@ -168,16 +147,13 @@ literal-entry l h = go (var l) (neg l) refl (two_forms l) h
     go (suc v) true e (inr p) h = sym p.0
 
 pub var-literal : (z : ℤ) → var (literal z) ≡ lib.IntN.nat_abs z
-unfolding literal
 var-literal (pos v) = var_pos v
 var-literal (negsuc v) = var-neg (suc v)
 
 -- Only the entry 0 has the number 0, and no entry has the number 1.
 pub literal_zero : (z : ℤ) → literal z ≡ 0 → z ≡ pos 0
-unfolding entry neg var
 literal_zero z e = sym (entry-literal z) ∙ ap entry e
 
 pub literal_one : (z : ℤ) → literal z ≡ 1 → ⊥
-unfolding literal
 literal_one (pos v) e = omega arith
 literal_one (negsuc v) e = omega arith

@@ -4,29 +4,29 @@
 use Rattle.std.specs.Prelude.{ℕ, zero, suc, ◌+◌, ◌-◌, ◌*◌, ◌/◌, ◌%◌, Bool, false, cond, not, List, ℤ, pos, negsuc, neg_ℤ, get_or, eqb}
 
 -- "A literal is v or −v."
-unfoldable pub literal : ℤ → ℕ
+abbrev pub literal : ℤ → ℕ
 literal (pos v) = 2 * v
 literal (negsuc v) = 2 * suc v + 1
 
-unfoldable pub var : ℕ → ℕ
+abbrev pub var : ℕ → ℕ
 var l = l / 2
 
-unfoldable pub neg : ℕ → Bool
+abbrev pub neg : ℕ → Bool
 neg l = eqb (l % 2) 1
 
 -- The entry that a literal's number stands for.
-unfoldable pub entry : ℕ → ℤ
+abbrev pub entry : ℕ → ℤ
 entry l = cond (neg l) (neg_ℤ (pos (var l))) (pos (var l))
 
 -- The opposite: the same variable with the other sign.
-unfoldable pub opp : ℕ → ℕ
+abbrev pub opp : ℕ → ℕ
 opp l = cond (neg l) (l - 1) (l + 1)
 
 -- Is a literal true, where a says which variables are?
-unfoldable pub holds : (ℕ → Bool) → ℕ → Bool
+abbrev pub holds : (ℕ → Bool) → ℕ → Bool
 holds a l = cond (neg l) (not (a (var l))) (a (var l))
 
 -- An assignment is a row of values, 0 or 1, the first for variable 1.
-unfoldable pub valued : List ℕ → ℕ → Bool
+abbrev pub valued : List ℕ → ℕ → Bool
 valued values zero = false
 valued values (suc v) = eqb (get_or values v 0) 1

@@ -1,6 +1,8 @@
 // The numbers that the builder returns: why a call refuses, and what its place says.
 ghost use Rattle.std.specs.Prelude.{◌≡◌};
 
+use crate::sizes::{MOST_PINS, WORK_ROOM};
+
 /// Why a call refuses. What was lent to it is then as it was found.
 #[derive(Clone, Copy, Debug, PartialEq, Eq)]
 pub enum Refusal {
@@ -56,9 +58,9 @@ impl Refusal {
                 place,
             Refusal::Contradiction(round) => round,
             Refusal::OutOfRange | Refusal::NothingHeld => 0,
-            Refusal::BookFull => 64,
+            Refusal::BookFull => MOST_PINS,
             Refusal::ShortBuffer(room) => room,
-            Refusal::ShortWork => 16_384,
+            Refusal::ShortWork => WORK_ROOM,
             Refusal::BadValue(variable) => variable,
         }
     }

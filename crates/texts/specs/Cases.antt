@@ -133,5 +133,5 @@ writes =
     ∷ []
 
 pub all_right : (list_all right_read reads && list_all right_written writes) ≡ true
-unfolding refuse first_refusal alike equal_readings right_read right_written reads writes literal entry var neg clauses_from clauses check_from checked blank solid feed tokens_from digits natural plain minus number remarks no_more size_c size_v word_cnf word_p header_at header judged_number body_from entry_of front leaves behind judged verdict roomed reading row_after digits_of decimal signed first_line parting clause_lines written writing buffer_after
+unfolding refuse first_refusal alike equal_readings right_read right_written reads writes clauses_from clauses check_from checked blank solid feed tokens_from digits natural plain minus number remarks no_more size_c size_v word_cnf word_p header_at header judged_number body_from entry_of front leaves behind judged verdict roomed reading row_after digits_of decimal signed first_line parting clause_lines written writing buffer_after
 all_right = refl
