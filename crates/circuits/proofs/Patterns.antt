@@ -43,7 +43,6 @@ iff p v w e = ((λ q. replace v w (sym e ∙ q)), (λ q. e ∙ from v w q))
 module _ (a : ℕ → Bool) where
   -- Parity: the signings of one kind hold together exactly where the number of ones is of the other kind.
   under : (l : ℕ) (cs : List (List ℕ)) → satisfies_all a (map (λ c. l ∷ c) cs) ≡ (holds a l || satisfies_all a cs)
-  unfolding satisfies_all satisfies
   under l [] = sym (or-true (holds a l))
   under l (c ∷ cs) = go (holds a l) (list_any (holds a) c) (list_all (satisfies a) (map (λ d. l ∷ d) cs)) (list_all (satisfies a) cs) (under l cs)
     where
@@ -52,7 +51,7 @@ module _ (a : ℕ → Bool) where
       go false s e f h = ap (λ t. s && t) h
 
   none_sat : (odd : Bool) → satisfies_all a (signings [] odd) ≡ xor odd false
-  unfolding signings satisfies_all satisfies xor
+  unfolding signings xor
   none_sat true = refl
   none_sat false = refl
 
@@ -82,7 +81,7 @@ module _ (a : ℕ → Bool) where
   Meets g = a g.output ≡ rule g.kind a g.inputs
 
   others_sat : (c : List ℕ) (o : ℕ) → Memᴰ o c → satisfies a c ≡ (holds a o || satisfies a (others o c))
-  unfolding satisfies others
+  unfolding others
   others_sat c o i = agree _ _
       (λ e. let (x, j, h) = list_any-mem (holds a) c e in go x j h (eqb x o) refl)
       (λ e. ⊎_elim (mem-list_any (holds a) c o i) (λ f. let (x, j, h) = list_any-mem (holds a) _ f in mem-list_any (holds a) c x (filter-mem _ c x j).0 h) (or_cases _ _ e))
@@ -92,11 +91,10 @@ module _ (a : ℕ → Bool) where
       go x j h false e = or_right (holds a o) _ (mem-list_any (holds a) _ x (mem-filter _ c x j (ap not e)) h)
 
   side_sat : (o x : ℕ) → satisfies a (side o x) ≡ (not (holds a o) || not (holds a x))
-  unfolding side satisfies
+  unfolding side
   side_sat o x = insert_sat a (opp o) (insert (opp x) []) ∙ rw (insert_sat a (opp x) [], holds-opp a o, holds-opp a x, or-false (not (holds a x)))
 
   sides_sat : (o : ℕ) (xs : List ℕ) → satisfies_all a (map (side o) xs) ≡ (not (holds a o) || not (satisfies a xs))
-  unfolding satisfies_all satisfies
   sides_sat o [] = sym (or-true (not (holds a o)))
   sides_sat o (x ∷ xs) = go (holds a o) (holds a x) (list_any (holds a) xs) (side_sat o x) (sides_sat o xs)
     where
@@ -112,7 +110,7 @@ module _ (a : ℕ → Bool) where
   not_some xs = list_all-map (holds a) opp xs ∙ list_all_alike (λ x. holds a (opp x)) (λ x. not (holds a x)) xs (λ x i. holds-opp a x) ∙ list_all-not (holds a) xs
 
   and_value : (c : List ℕ) (o : ℕ) → rule (and_form c o).kind a (and_form c o).inputs ≡ cond (neg o) (satisfies a (others o c)) (not (satisfies a (others o c)))
-  unfolding and_form and_inputs satisfies
+  unfolding and_form and_inputs
   and_value c o = and_rule a o (and_inputs c o) ∙ go (neg o)
     where
       xs : List ℕ
@@ -123,7 +121,7 @@ module _ (a : ℕ → Bool) where
       go false = not_some xs
 
   pub and_meets : (c : List ℕ) (o : ℕ) → Memᴰ o c → (satisfies_all a (and_form c o).pattern ≡ true) ↔ Meets (and_form c o)
-  unfolding satisfies_all and_form
+  unfolding and_form
   and_meets c o i = iff _ (a (var o)) _ (rw (others_sat c o i, sides_sat o (others o c)) (table (neg o) (a (var o)) (satisfies a (others o c)) ∙ ap (beq (a (var o))) (sym (and_value c o))))
     where
       table : (b v s : Bool) → ((cond b (not v) v || s) && (not (cond b (not v) v) || not s)) ≡ beq v (cond b s (not s))

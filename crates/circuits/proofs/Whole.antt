@@ -42,7 +42,7 @@ use Rattle.circuits.proofs.Shared.{in_pattern_gate}
 -- The settled clauses hold exactly where the residue does and every taken gate's pattern does, since these are among them.
 split : (a : ℕ → Bool) (gs : List Gate) (cs : List (List ℕ)) → ((g : Gate) → Memᴰ g gs → found cs g ≡ true)
     → (satisfies_all a cs ≡ true) ↔ ((satisfies_all a (residue gs cs) ≡ true) × ((g : Gate) → Memᴰ g gs → satisfies_all a g.pattern ≡ true))
-unfolding satisfies_all residue found
+unfolding residue found
 split a gs cs there = (
   (λ h. (
     mem-list_all (satisfies a) _ (λ c i. list_all-mem (satisfies a) cs h c (filter-mem _ cs c i).0),

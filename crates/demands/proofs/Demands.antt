@@ -182,7 +182,7 @@ filled_satisfies n t pins r st cs s given long =
 -- Every gate has its value in an assignment that satisfies the settled table.
 all_meet : (n : ℕ) (st : List ℕ) (cs : List (List ℕ)) (k : Settled n st cs) (a : ℕ → Bool) → satisfies_all a cs ≡ true
     → (g : Gate) → Memᴰ g (taken_by (allowed n) n cs) → Meets a g
-unfolding satisfies_all found
+unfolding found
 all_meet n st cs k a e g i =
     let v = (are_taken n st cs k (allowed n) (strict n)).valid g i in
     (v.meets a).0 (mem-list_all (satisfies a) g.pattern (λ c j. list_all-mem (satisfies a) cs e c (among-mem c cs (list_all-mem _ g.pattern v.there c j))))

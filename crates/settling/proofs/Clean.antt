@@ -25,7 +25,7 @@ use Rattle.settling.proofs.Forced.{Sound}
 
 module _ (a : ℕ → Bool) where
   pub insert_sat : (x : ℕ) (ys : List ℕ) → satisfies a (insert x ys) ≡ (holds a x || satisfies a ys)
-  unfolding insert satisfies
+  unfolding insert
   insert_sat x [] = refl
   insert_sat x (y ∷ ys) = go (eqb x y) refl (ltb x y) (insert_sat x ys)
     where
@@ -37,7 +37,6 @@ module _ (a : ℕ → Bool) where
 
   module _ (m : List ℕ) (sound : Sound a m) where
     marked_sat : (c : List ℕ) → list_any (marked m) c ≡ true → satisfies a c ≡ true
-    unfolding satisfies
     marked_sat c e = let (x, i, h) = list_any-mem (marked m) c e in mem-list_any (holds a) c x i (sound x h)
 
     tidy_step_sat : (out : List ℕ) (x : ℕ) → satisfies a (tidy_step m out x) ≡ (satisfies a out || holds a x)
@@ -49,11 +48,11 @@ module _ (a : ℕ → Bool) where
         go false e = insert_sat x out ∙ or_comm (holds a x) (satisfies a out)
 
     tidy_sat : (c : List ℕ) → satisfies a (tidy m c) ≡ satisfies a c
-    unfolding tidy satisfies
+    unfolding tidy
     tidy_sat c = fold-list_any (tidy_step m) (satisfies a) (holds a) tidy_step_sat [] c
 
     add_sat : (out : List (List ℕ)) (c : List ℕ) → satisfies_all a (add out c) ≡ (satisfies_all a out && satisfies a c)
-    unfolding add satisfies_all
+    unfolding add
     add_sat out c = go (among c out) refl
       where
         go : (b : Bool) → among c out ≡ b → satisfies_all a (cond b out (out ++ (c ∷ []))) ≡ (satisfies_all a out && satisfies a c)
@@ -70,7 +69,7 @@ module _ (a : ℕ → Bool) where
 
     -- the cleaned clauses have the same models
     pub clean_sat : (cs : List (List ℕ)) → satisfies_all a (clean m cs) ≡ satisfies_all a cs
-    unfolding clean satisfies_all
+    unfolding clean
     clean_sat cs = fold-list_all (clean_step m) (satisfies_all a) (satisfies a) step_sat [] cs
 
 -- the literals of the cleaned clauses were there, and neither they nor their opposites are forced

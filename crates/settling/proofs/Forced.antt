@@ -39,7 +39,7 @@ module _ (a : ℕ → Bool) where
   Sound m = (l : ℕ) → marked m l ≡ true → holds a l ≡ true
 
   forces_sound : (m c : List ℕ) (l : ℕ) → satisfies a c ≡ true → Sound m → forces m c l ≡ true → holds a l ≡ true
-  unfolding satisfies forces
+  unfolding forces
   forces_sound m c l h s f =
       let (x, i, t) = list_any-mem (holds a) c h in
       ⊎_elim
@@ -64,7 +64,7 @@ module _ (a : ℕ → Bool) where
       go false = fold_keeps (force_at c) Sound c (λ k l i. at_sound c k l h) m s
 
   pub forced_holds : (n : ℕ) (cs : List (List ℕ)) → satisfies_all a cs ≡ true → (l : ℕ) → marked (forced n cs) l ≡ true → holds a l ≡ true
-  unfolding satisfies_all forced pass
+  unfolding forced pass
   forced_holds n cs h =
       iterate_keeps (pass cs) Sound (λ m. fold_keeps force_in Sound cs (λ k c i. in_sound k c (list_all-mem (satisfies a) cs h c i)) m)
       (2 * n + 2) (replicate (2 * n + 2) 0) (λ l e. clash_of (sym e ∙ none_marked (2 * n + 2) l))

@@ -63,7 +63,6 @@ module _ (a : ℕ → Bool) where
   Opposed c = holds a (get_or c 0 0) ≡ not (holds a (get_or c 1 0))
 
   opposed : (c : List ℕ) → eqb (length c) 2 ≡ true → satisfies a c ≡ true → satisfies a (map opp c) ≡ true → Opposed c
-  unfolding satisfies
   opposed [] e g h = clash_of (sym e)
   opposed (x ∷ []) e g h = clash_of (sym e)
   opposed (x ∷ y ∷ []) e g h = go (holds a x) (holds a y) g (rw (holds-opp a x, holds-opp a y) at h)
@@ -79,7 +78,7 @@ module _ (a : ℕ → Bool) where
       no q = omega arith
 
   pub pairs_opposed : (ds : List (List ℕ)) → satisfies_all a ds ≡ true → (c : List ℕ) → Memᴰ c (pairs ds) → Opposed c
-  unfolding pairs satisfies_all
+  unfolding pairs
   pairs_opposed ds h c m =
       let (i, e) = filter-mem _ ds c m in
       let two = eqb (length c) 2 in let there = among (map opp c) ds in

@@ -72,7 +72,6 @@ tidy_is m c = fold_keeps (tidy_step m) (Tidy c) c (λ out x i t. go out x i t (m
     go out x i t false = record { rises = insert_rising x t.rises; inside = λ l j. ⊎_elim (λ q. Memᴰ.cast q i) (t.inside l) (insert_in x out l j) }
 
 tidy_proper : (c d : List ℕ) → void c ≡ false → Tidy c d → Proper d
-unfolding void
 tidy_proper c d v t = record { rises = t.rises; single = λ x y i j e. one x y (t.inside x i) (t.inside y j) e (eqb x y) refl }
   where
     one : (x y : ℕ) → Memᴰ x c → Memᴰ y c → var x ≡ var y → (b : Bool) → eqb x y ≡ b → x ≡ y

@@ -215,7 +215,7 @@ module _ (n : ℕ) (st : List ℕ) (cs : List (List ℕ)) (good : Good n st cs) 
 
     -- a contradiction has no model
     pub no_empty : list_any empty cs ≡ true → satisfies_all a cs ≡ true → ⊥
-    unfolding satisfies_all empty satisfies
+    unfolding empty
     no_empty e h = let (c, i, q) = list_any-mem empty cs e in hollow c q (list_all-mem (satisfies a) cs h c i)
       where
         hollow : (c : List ℕ) → eqb (length c) 0 ≡ true → satisfies a c ≡ true → ⊥

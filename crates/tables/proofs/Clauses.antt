@@ -29,12 +29,10 @@ All P cs = (c : List ℕ) → Memᴰ c cs → (l : ℕ) → Memᴰ l c → P l
 
 module _ (a : ℕ → Bool) where
   pub all_append : (cs ds : List (List ℕ)) → satisfies_all a (cs ++ ds) ≡ (satisfies_all a cs && satisfies_all a ds)
-  unfolding satisfies_all
   all_append cs ds = list_all-append (satisfies a) cs ds
 
   -- A void clause is satisfied by every assignment.
   pub void-holds : (c : List ℕ) → void c ≡ true → satisfies a c ≡ true
-  unfolding void satisfies
   void-holds c e = let (x, i, h) = list_any-mem _ c e in go (holds a x) refl i (has-mem (opp x) c h)
     where
       go : {x : ℕ} (b : Bool) → holds a x ≡ b → Memᴰ x c → Memᴰ (opp x) c → list_any (holds a) c ≡ true
@@ -44,19 +42,15 @@ module _ (a : ℕ → Bool) where
   -- A change of literals that keeps the truth of those in the clauses keeps that of the clauses.
   module _ (f : ℕ → ℕ) where
     pub map_holds : (c : List ℕ) → ((l : ℕ) → Memᴰ l c → holds a (f l) ≡ holds a l) → satisfies a (map f c) ≡ satisfies a c
-    unfolding satisfies
     map_holds c h = list_any-map f (holds a) c ∙ list_any_alike (λ l. holds a (f l)) (holds a) c h
 
     pub maps_hold : (cs : List (List ℕ)) → All (λ l. holds a (f l) ≡ holds a l) cs → satisfies_all a (map (map f) cs) ≡ satisfies_all a cs
-    unfolding satisfies_all
     maps_hold cs h = list_all-map (satisfies a) (map f) cs ∙ list_all_alike (λ c. satisfies a (map f c)) (satisfies a) cs (λ c i. map_holds c (h c i))
 
 -- Two assignments that agree on the variables of some clauses satisfy the same of them.
 module _ (a b : ℕ → Bool) where
   pub alike_holds : (c : List ℕ) → ((l : ℕ) → Memᴰ l c → a (var l) ≡ b (var l)) → satisfies a c ≡ satisfies b c
-  unfolding satisfies
   alike_holds c h = list_any_alike (holds a) (holds b) c (λ l i. holds_alike a b l (h l i))
 
   pub alikes_hold : (cs : List (List ℕ)) → All (λ l. a (var l) ≡ b (var l)) cs → satisfies_all a cs ≡ satisfies_all b cs
-  unfolding satisfies_all
   alikes_hold cs h = list_all_alike (satisfies a) (satisfies b) cs (λ c i. alike_holds c (h c i))

@@ -2,6 +2,8 @@
 #![tactic(auto)]
 
 pub mod check;
+pub mod clause;
 pub mod literal;
+pub mod lookup;
 pub mod numbers;
 pub mod sizes;

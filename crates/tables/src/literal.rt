@@ -29,5 +29,9 @@ pub fn is_negative(literal: usize) -> bool
 pub fn opposite(literal: usize) -> usize
     ensures { result ≡ opp literal }
 {
-    if is_negative(literal) { literal - 1 } else { literal + 1 }
+    if is_negative(literal) {
+        literal - 1
+    } else {
+        literal + 1
+    }
 }

@@ -1,6 +1,7 @@
 // The sizes.
 
 pub const MOST_VARIABLES: usize = 1_024;
+
 pub const MOST_CLAUSES: usize = 4_096;
 /// With the zeros.
 pub const MOST_ENTRIES: usize = 16_384;
