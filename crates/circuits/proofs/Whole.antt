@@ -45,8 +45,8 @@ split : (a : ℕ → Bool) (gs : List Gate) (cs : List (List ℕ)) → ((g : Gat
 unfolding residue found
 split a gs cs there = (
   (λ h. (
-    mem-list_all (satisfies a) _ (λ c i. list_all-mem (satisfies a) cs h c (filter-mem _ cs c i).0),
-    λ g i. mem-list_all (satisfies a) g.pattern (λ c j. list_all-mem (satisfies a) cs h c (among-mem c cs (list_all-mem _ g.pattern (there g i) c j))),
+    mem-list_all (satisfies a) (filter (λ c. not (in_pattern gs c)) cs) (λ c i. list_all-mem (satisfies a) cs h c (filter-mem _ cs c i).0),
+    λ g i. mem-list_all (satisfies a) g.pattern (λ c j. list_all-mem (satisfies a) cs h c (among-mem c cs (list_all-mem (λ c. among c cs) g.pattern (there g i) c j))),
   )),
   (λ h. mem-list_all (satisfies a) cs (λ c i. go c i (in_pattern gs c) refl h.0 h.1)),
 )
