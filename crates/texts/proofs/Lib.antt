@@ -1,0 +1,3 @@
+-- The laws of clause text: what is written is read back.
+pub mod Spans
+pub mod Digits
