@@ -2,3 +2,4 @@
 pub mod Literals
 pub mod Clauses
 pub mod Checked
+pub mod Few
