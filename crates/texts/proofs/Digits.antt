@@ -15,8 +15,8 @@ use Rattle.std.proofs.lemmas.List.{length-append, get_or_append_left}
 use Rattle.texts.specs.Numbers.{digits, natural}
 use Rattle.texts.specs.Decimal.{digits_of, decimal}
 
--- Digits begin with a digit; and one digit is read on.
-pub digits_begin : (a b v : ℕ) (bs : List ℕ) → digits a (b ∷ bs) ≡ Some v → (48 ≤ b) × (b ≤ 57) × (digits (10 * a + (b - 48)) bs ≡ Some v)
+-- What is read as a number begins with a digit; and behind a digit the reading goes on.
+digits_begin : (a b v : ℕ) (bs : List ℕ) → digits a (b ∷ bs) ≡ Some v → (48 ≤ b) × (b ≤ 57) × (digits (10 * a + (b - 48)) bs ≡ Some v)
 unfolding digits
 digits_begin a b v bs e = go (ltb b 48) refl (ltb 57 b) refl e
   where
@@ -35,6 +35,10 @@ digits_nil : (a v : ℕ) → digits a [] ≡ Some v → a ≡ v
 unfolding digits
 digits_nil a v e = cc
 
+pub digits_first : (a v : ℕ) (xs : List ℕ) → 1 ≤ length xs → digits a xs ≡ Some v → 48 ≤ get_or xs 0 0
+digits_first a v [] l e = absurd (omega arith)
+digits_first a v (b ∷ bs) l e = (digits_begin a b v bs e).0
+
 -- One digit more behind.
 digits_push : (a v d : ℕ) (xs : List ℕ) → d ≤ 9 → digits a xs ≡ Some v → digits a (xs ++ ((48 + d) ∷ [])) ≡ Some (10 * v + d)
 unfolding digits
@@ -46,7 +50,8 @@ digits_pass : (test : ℕ → Bool) → ((b : ℕ) → 48 ≤ b → test b ≡ t
 digits_pass test h a v [] e = refl
 digits_pass test h a v (b ∷ bs) e = let (l, m, r) = digits_begin a b v bs e in and_from (test b) (list_all test bs) (h b l) (digits_pass test h (10 * a + (b - 48)) v bs r)
 
--- What is said of the digits of v.
+-- What is said of the digits xs of v: they are read as v; v below 10, 100, .. has at most 1, 2, .. of them; and none is a
+-- needless 0.
 pub record Digits (v : ℕ) (xs : List ℕ) : Type 0 where
   pub says : digits 0 xs ≡ Some v
   pub some : 1 ≤ length xs
@@ -77,6 +82,7 @@ more_digits v xs h d = record {
     most zero g = absurd (omega arith)
     most (suc k) g = let l = d.most k (omega (arith, pow-suc 10 (suc k))) in omega (arith, length-append xs ((48 + v % 10) ∷ []))
 
+-- By induction on the digits that there may be.
 digits_of_right : (f v : ℕ) → v ≤ f → Digits v (digits_of f v)
 unfolding digits_of
 digits_of_right zero v h = one_digit v (omega arith)

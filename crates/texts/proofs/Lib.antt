@@ -1,3 +1,5 @@
 -- The laws of clause text: what is written is read back.
 pub mod Spans
 pub mod Digits
+pub mod Words
+pub mod HeaderLine

@@ -1,4 +1,5 @@
--- The tokens of a text that is laid out as words parted by blanks. Nobody else opens the definition of tokens.
+-- The tokens of a text that is laid out as words parted by blanks. Other proofs cite these laws, and do not open the
+-- definition of tokens.
 use Prim.Native.Nat.{ℕ, zero, suc, ◌+◌, ◌≤◌}
 use mathlib.Core.Path.{◌≡◌, refl, ap, ◌∙◌}
 use mathlib.Core.Bool.{Bool, true, false}
@@ -23,6 +24,7 @@ module _ {X : Type 0} (p : X → Bool) where
   prefix_len_whole [] e = refl
   prefix_len_whole (x ∷ w) e = let (q, s) = and_parts (p x) (list_all p w) e in rw (q, prefix_len_whole w s) (omega arith)
 
+-- One byte more in front.
 pub tokens_nil : (p : ℕ) → tokens_from 0 p [] ≡ []
 unfolding tokens_from
 tokens_nil p = refl
@@ -42,6 +44,7 @@ tokens_passed zero p bs = rw add-zero
 tokens_passed (suc k) p [] = refl
 tokens_passed (suc k) p (b ∷ bs) = tokens_passed k (p + 1) bs ∙ ap (λ q. tokens_from 0 q (drop k bs)) (omega arith)
 
+-- Each byte is solid or a blank.
 solid-blank : (b : ℕ) → solid b ≡ true → blank b ≡ false
 unfolding solid
 solid-blank b e = not-true (blank b) e
@@ -69,8 +72,8 @@ pub word_last : (p : ℕ) (w : List ℕ) → 1 ≤ length w → list_all solid w
 word_last p [] l s = absurd (omega arith)
 word_last p (x ∷ w) l s =
     let (q, s) = and_parts (solid x) (list_all solid w) s in
-    let n = prefix_len_whole solid w s in
     tokens_solid p x w (solid-blank x q)
-    ∙ rw (n, take_all (length w) w (omega arith))
-    (ap (λ (ts : List Token). record { place = p; bytes = x ∷ w } ∷ ts)
-    (tokens_passed (length w) (p + 1) w ∙ rw (drop_all (length w) w (omega arith)) (tokens_nil (p + 1 + length w))))
+    ∙ rw (prefix_len_whole solid w s, take_all (length w) w (omega arith)) (ap (λ (ts : List Token). record { place = p; bytes = x ∷ w } ∷ ts) rest)
+  where
+    rest : tokens_from (length w) (p + 1) w ≡ []
+    rest = tokens_passed (length w) (p + 1) w ∙ rw (drop_all (length w) w (omega arith)) (tokens_nil (p + 1 + length w))
