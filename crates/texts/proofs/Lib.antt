@@ -3,3 +3,5 @@ pub mod Spans
 pub mod Digits
 pub mod Words
 pub mod HeaderLine
+pub mod Lines
+pub mod Back
