@@ -13,6 +13,7 @@ use borrow.Author.Tests.{eqb-true, eqb-false, eq-eqb, le-ltb, not-true}
 use Rattle.std.specs.List.{fold, list_all, filter, range_with_len}
 use Rattle.std.proofs.lemmas.Bool.{and_parts, false_from_ne_true}
 use Rattle.std.proofs.lemmas.List.FromFn.{length-range_with_len}
+use Rattle.ways.specs.Ways.{among}
 use Rattle.ways.proofs.Bools.{never_both}
 use Rattle.ways.proofs.Rows.{list_all-mem, mem-list_all, filter-mem, mem-filter}
 use Rattle.std.proofs.lemmas.List.FromFn.{get_or-map-range_with_len}
