@@ -51,7 +51,6 @@ append_ordered (next {g = g} {gs = gs} s b o) k c =
     next s (λ h i. ⊎_elim (b h) (c g (Memᴰ.head refl) h) (Memᴰ.append_cases gs i)) (append_ordered o k (λ f i. c f (Memᴰ.tail i)))
 
 set_keeps : (m : List ℕ) (b v : ℕ) → marked m v ≡ true → marked (set m b 1) v ≡ true
-unfolding marked
 set_keeps [] b v e = e
 set_keeps (x ∷ m) zero zero e = refl
 set_keeps (x ∷ m) zero (suc v) e = e
@@ -90,7 +89,7 @@ module _ (k : ℕ) where
       go false = l
 
   step_sets : (m : List ℕ) (g : Gate) → length m ≡ k → g.output < k → touched m g ≡ true → marked (depend_step m g) g.output ≡ true
-  unfolding depend_step marked
+  unfolding depend_step
   step_sets m g l b t = rw t (eq-eqb _ 1 (get_or-set_same m g.output 1 0 (rw l b)))
 
   pub closed : {gs : List Gate} → Ordered gs → (m : List ℕ) → length m ≡ k → (h : Gate) → Memᴰ h gs → h.output < k
@@ -110,7 +109,6 @@ module _ (k : ℕ) where
   closed (next {g = g} s bf o) m l h (Memᴰ.tail i) b e = closed o (depend_step m g) (step_long m g l) h i b e
 
 pub own_mark : (n o : ℕ) → o < n + 1 → marked (set (replicate (n + 1) 0) o 1) o ≡ true
-unfolding marked
 own_mark n o h = eq-eqb _ 1 (get_or-set_same (replicate (n + 1) 0) o 1 0 (rw (length-replicate (n + 1) zero) h))
 
 -- a gate that is allowed can be put in its place

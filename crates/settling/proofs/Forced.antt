@@ -20,7 +20,6 @@ use Rattle.rules.specs.Forced.{marked, forces, force_at, force_in, pass, forced}
 
 -- what is marked after a store was marked, or is the place
 pub set_was : (m : List ℕ) (b v : ℕ) → marked (set m b 1) v ≡ true → (v ≡ b) ⊎ (marked m v ≡ true)
-unfolding marked
 set_was [] b v e = inr e
 set_was (x ∷ m) zero zero e = inl refl
 set_was (x ∷ m) zero (suc v) e = inr e
@@ -28,7 +27,6 @@ set_was (x ∷ m) (suc b) zero e = inr e
 set_was (x ∷ m) (suc b) (suc v) e = ⊎_elim (λ p. inl (ap suc p)) (λ p. inr p) (set_was m b v e)
 
 pub none_marked : (k l : ℕ) → marked (replicate k 0) l ≡ false
-unfolding marked
 none_marked zero l = refl
 none_marked (suc k) zero = refl
 none_marked (suc k) (suc l) = none_marked k l

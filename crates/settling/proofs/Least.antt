@@ -125,7 +125,7 @@ module _ (n : ℕ) (cs : List (List ℕ)) where
       (fold_grows force_in ones in_grows cs) (2 * n + 2) (replicate (2 * n + 2) 0) (length-replicate (2 * n + 2) 0) (omega arith)
 
   forced-marked : (c : List ℕ) (l : ℕ) → Memᴰ c cs → void c ≡ false → Memᴰ l c → l < 2 * n + 2 → forces full c l ≡ true → marked full l ≡ true
-  unfolding pass force_in force_at marked
+  unfolding pass force_in force_at
   forced-marked c l i v o h f =
       let a : force_in full c ≡ full = fold_still force_in ones in_grows cs full forced_still c i in
       let b : fold (force_at c) full c ≡ full = rw v at a in

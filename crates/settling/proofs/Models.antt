@@ -91,7 +91,7 @@ module _ (a : ℕ → Bool) (zero_is : a 0 ≡ false) (n : ℕ) where
 
 -- each variable by itself
 row_own : (b k v d : ℕ) → d ≡ 2 * (b + v) → get_or (map (alone []) (range_with_len b k)) v d ≡ d
-unfolding alone marked
+unfolding alone
 row_own b zero v d e = refl
 row_own b (suc k) zero d e = omega arith
 row_own b (suc k) (suc v) d e = row_own (b + 1) k v d (omega arith)
