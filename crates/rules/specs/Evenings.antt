@@ -7,8 +7,7 @@ use Prim.Native.String.{String}
 use Rattle.ways.specs.Ways.{same}
 use Rattle.tables.specs.Sizes.{most_bytes, work_room}
 use Rattle.tables.specs.Numbers.{refuse, first_refusal}
-use Rattle.tables.specs.Literal.{literal, var, neg, entry, opp, holds, valued}
-use Rattle.tables.specs.Clause.{clauses_from, clauses, void, satisfies, satisfies_all}
+use Rattle.tables.specs.Clause.{clauses_from, clauses}
 use Rattle.tables.specs.Check.{check_from, checked}
 use Rattle.texts.specs.Buffer.{front, leaves}
 use Rattle.texts.specs.Bytes.{blank, solid, feed}
@@ -18,7 +17,7 @@ use Rattle.texts.specs.Header.{remarks, no_more, size_c, size_v, word_cnf, word_
 use Rattle.texts.specs.Body.{judged_number, body_from, entry_of}
 use Rattle.texts.specs.Reading.{behind, judged, verdict, roomed, reading, row_after}
 use Rattle.texts.specs.Decimal.{digits_of, decimal, signed}
-use Rattle.rules.specs.Forced.{marked, forces, force_at, force_in, pass, forced, clash, empty, contradicts}
+use Rattle.rules.specs.Forced.{forces, force_at, force_in, pass, forced, clash, empty, contradicts}
 use Rattle.rules.specs.Clean.{insert, tidy_step, tidy, add, clean_step, clean}
 use Rattle.rules.specs.Pairs.{pairs, stands, replace, alone, starting, give_way, meet, join, leaders, torn, fixed, root, linked}
 use Rattle.rules.specs.Rounds.{paired, cleaned, round, after, rounds, outcome, pinned}

@@ -14,7 +14,15 @@ pub struct Book {
 
 impl Book {
     ghost use Rattle.std.specs.Prelude.{◌≡◌};
-    ghost use Rattle.rules.specs.Pins.{empty_book};
+    ghost use Rattle.rules.specs.Pins.{empty_book, in_force};
+
+    /// The pins in force.
+    #[tactic(auto, unfolding(crate::specs::Pins::in_force))]
+    pub fn in_force(&self) -> &[i32]
+        ensures { result.now ≡ in_force self.now }
+    {
+        self.pins.split_at(self.held.min(self.pins.len())).0
+    }
 
     /// The book that holds no pin.
     #[tactic(auto, unfolding(crate::specs::Pins::empty_book))]
