@@ -1,13 +1,8 @@
 -- Laws of clauses under an assignment.
-use Prim.Native.Nat.{ℕ}
-use mathlib.Core.Path.{◌≡◌, refl, ap, ◌∙◌}
-use mathlib.Core.Bool.{Bool, true, false, not, ◌&&◌}
-use mathlib.Core.List.{List, [], ◌∷◌, ◌++◌, map, Memᴰ}
-use lib.IntN.{ℤ}
-use borrow.Author.Tests.{eq-eqb, ne_eqb}
+use Rattle.std.proofs.Common.{◌≡◌, ℕ, Bool, true, false, not, ◌&&◌, List, [], ◌∷◌, ◌++◌, map, ℤ, refl, ap, ◌∙◌, eq-eqb, ne_eqb}
+use mathlib.Core.List.{Memᴰ}
 use Rattle.std.specs.List.{list_any}
-use Rattle.std.proofs.lemmas.List.Folds.{list_all-append}
-use Rattle.std.proofs.lemmas.List.Folds.{list_all-map}
+use Rattle.std.proofs.lemmas.List.Folds.{list_all-append, list_all-map}
 use Rattle.ways.proofs.Rows.{list_any-mem, mem-list_any, list_any_alike, list_all_alike, list_any-map}
 use Rattle.ways.proofs.Members.{has-mem}
 use Rattle.tables.specs.Literal.{literal, var, opp, holds}
