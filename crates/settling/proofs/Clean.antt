@@ -1,17 +1,13 @@
 -- Cleaning keeps the assignments that satisfy the clauses, where the forced literals are true.
-use Prim.Native.Nat.{ℕ}
-use mathlib.Core.Path.{◌≡◌, refl, sym, ap, ◌∙◌, subst}
-use mathlib.Core.Bool.{Bool, true, false, cond, ◌&&◌, ◌||◌, and-true, or-false, or_comm}
+use Rattle.std.proofs.Common.{◌≡◌, ℕ, Bool, true, false, cond, ◌&&◌, ◌||◌, eqb, ltb, ◌⊎◌, List, [], ◌∷◌, ◌++◌, sym, refl, ap, ◌∙◌, subst, inl, inr, ⊎_elim, eqb-true, rules}
 use mathlib.Core.List.Memᴰ
-use mathlib.Core.List.{List, [], ◌∷◌, ◌++◌, Memᴰ}
-use mathlib.Core.Logic.{◌⊎◌, inl, inr, ⊎_elim}
-use lib.Dec.{eqb, ltb}
-use borrow.Author.Tests.{eqb-true, not-true}
+use mathlib.Core.List.{Memᴰ}
 use Rattle.std.specs.List.{list_any, list_all}
-use Rattle.ways.specs.Ways.{among}
-use Rattle.std.proofs.lemmas.Bool.{or_cases}
+use Rattle.std.proofs.Math.Bool.{and-true, or-false, or_comm}
+use Rattle.std.proofs.lemmas.Bool.{not-true, or_cases, cond_both}
 use Rattle.std.proofs.lemmas.List.Folds.{list_all-append}
-use Rattle.ways.proofs.Bools.{or_swap, or_twice, and_idle}
+use Rattle.ways.specs.Ways.{among}
+use Rattle.ways.proofs.Bools.{and_idle}
 use Rattle.ways.proofs.Runs.{fold_keeps, fold-list_all, fold-list_any}
 use Rattle.ways.proofs.Rows.{list_all-mem, list_any-mem, mem-list_any, none_of}
 use Rattle.ways.proofs.Members.{among-mem}
@@ -31,9 +27,9 @@ module _ (a : ℕ → Bool) where
     where
       go : (b : Bool) → eqb x y ≡ b → (l : Bool) → list_any (holds a) (insert x ys) ≡ (holds a x || list_any (holds a) ys)
           → list_any (holds a) (cond b (y ∷ ys) (cond l (x ∷ y ∷ ys) (y ∷ insert x ys))) ≡ (holds a x || (holds a y || list_any (holds a) ys))
-      go true e l h = rw (eqb-true x y e) (or_twice (holds a y) _)
+      go true e l h = rw (eqb-true x y e) (search rules)
       go false e true h = refl
-      go false e false h = rw h (or_swap (holds a y) (holds a x) _)
+      go false e false h = rw h (search rules)
 
   module _ (m : List ℕ) (sound : Sound a m) where
     marked_sat : (c : List ℕ) → list_any (marked m) c ≡ true → satisfies a c ≡ true
@@ -42,11 +38,10 @@ module _ (a : ℕ → Bool) where
 
     tidy_step_sat : (out : List ℕ) (x : ℕ) → satisfies a (tidy_step m out x) ≡ (satisfies a out || holds a x)
     unfolding tidy_step
-    tidy_step_sat out x = go (marked m (opp x)) refl
-      where
-        go : (b : Bool) → marked m (opp x) ≡ b → satisfies a (cond b out (insert x out)) ≡ (satisfies a out || holds a x)
-        go true e = let h : holds a x ≡ false = not-true _ (sym (holds-opp a x) ∙ sound (opp x) e) in rw (h, or-false (satisfies a out))
-        go false e = insert_sat x out ∙ or_comm (holds a x) (satisfies a out)
+    tidy_step_sat out x =
+        cond_both (marked m (opp x)) out (insert x out) (λ o. satisfies a o ≡ (satisfies a out || holds a x))
+        (λ e. let h : holds a x ≡ false = not-true _ (sym (holds-opp a x) ∙ sound (opp x) e) in rw (h, or-false (satisfies a out)))
+        (λ e. insert_sat x out ∙ or_comm (holds a x) (satisfies a out))
 
     tidy_sat : (c : List ℕ) → satisfies a (tidy m c) ≡ satisfies a c
     unfolding tidy satisfies
@@ -54,19 +49,17 @@ module _ (a : ℕ → Bool) where
 
     add_sat : (out : List (List ℕ)) (c : List ℕ) → satisfies_all a (add out c) ≡ (satisfies_all a out && satisfies a c)
     unfolding add satisfies_all
-    add_sat out c = go (among c out) refl
-      where
-        go : (b : Bool) → among c out ≡ b → satisfies_all a (cond b out (out ++ (c ∷ []))) ≡ (satisfies_all a out && satisfies a c)
-        go true e = sym (and_idle (satisfies_all a out) (satisfies a c) (λ h. list_all-mem (satisfies a) out h c (among-mem c out e)))
-        go false e = list_all-append (satisfies a) out (c ∷ []) ∙ ap (λ t. list_all (satisfies a) out && t) (and-true (satisfies a c))
+    add_sat out c =
+        cond_both (among c out) out (out ++ (c ∷ [])) (λ o. satisfies_all a o ≡ (satisfies_all a out && satisfies a c))
+        (λ e. sym (and_idle (satisfies_all a out) (satisfies a c) (λ h. list_all-mem (satisfies a) out h c (among-mem c out e))))
+        (λ e. list_all-append (satisfies a) out (c ∷ []) ∙ ap (λ t. list_all (satisfies a) out && t) (and-true (satisfies a c)))
 
     step_sat : (out : List (List ℕ)) (c : List ℕ) → satisfies_all a (clean_step m out c) ≡ (satisfies_all a out && satisfies a c)
     unfolding clean_step
-    step_sat out c = go (void c || list_any (marked m) c) refl
-      where
-        go : (b : Bool) → (void c || list_any (marked m) c) ≡ b → satisfies_all a (cond b out (add out (tidy m c))) ≡ (satisfies_all a out && satisfies a c)
-        go true e = sym (and_idle (satisfies_all a out) (satisfies a c) (λ _. ⊎_elim (void-holds a c) (marked_sat c) (or_cases _ _ e)))
-        go false e = add_sat out (tidy m c) ∙ ap (λ t. satisfies_all a out && t) (tidy_sat c)
+    step_sat out c =
+        cond_both (void c || list_any (marked m) c) out (add out (tidy m c)) (λ o. satisfies_all a o ≡ (satisfies_all a out && satisfies a c))
+        (λ e. sym (and_idle (satisfies_all a out) (satisfies a c) (λ _. ⊎_elim (void-holds a c) (marked_sat c) (or_cases _ _ e))))
+        (λ e. add_sat out (tidy m c) ∙ ap (λ t. satisfies_all a out && t) (tidy_sat c))
 
     -- the cleaned clauses have the same models
     pub clean_sat : (cs : List (List ℕ)) → satisfies_all a (clean m cs) ≡ satisfies_all a cs

@@ -1,25 +1,39 @@
 -- Pairs and classes: in an assignment that satisfies the clauses each variable has the value of what it stands for.
-use Prim.Native.Nat.{ℕ, zero, suc, ◌+◌, ◌*◌}
-use mathlib.Core.Path.{◌≡◌, refl, sym, ap, ◌∙◌}
-use mathlib.Core.Bool.{Bool, true, false, cond, not, ◌||◌}
-use mathlib.Core.List.{List, [], ◌∷◌, map, Memᴰ}
-use native.Mathlib.Omega.{arith}
-use lib.ListN.{length, get_or}
-use lib.Dec.{eqb, ltb}
-use borrow.Author.Tests.{eqb-true, not-true}
+use Rattle.std.proofs.Common.{◌≡◌, ℕ, zero, suc, ◌+◌, ◌*◌, Bool, true, false, cond, not, ◌||◌, eqb, ltb, List, [], ◌∷◌, map, length, get_or, sym, refl, ap, ◌∙◌, arith, eqb-true, rules, ⊎_elim, inl, inr, ◌⊎◌, ◌≤◌}
+use mathlib.Core.List.{Memᴰ}
 use Rattle.std.specs.List.{range_with_len}
+use Rattle.std.proofs.lemmas.Bool.{not-true, and_parts, cases_lt}
+use Rattle.std.proofs.lemmas.List.{get_or_past}
+use Rattle.std.proofs.lemmas.List.FromFn.{get_or-map-range_with_len, length-map-range_with_len}
 use Rattle.ways.specs.Ways.{among}
-use Rattle.std.proofs.lemmas.Bool.{and_parts}
 use Rattle.ways.proofs.Bools.{clash_of}
 use Rattle.ways.proofs.Runs.{fold_keeps}
 use Rattle.ways.proofs.Rows.{list_all-mem, filter-mem}
-use Rattle.ways.proofs.Members.{among-mem}
+use Rattle.ways.proofs.Members.{among-mem, map_cases}
 use Rattle.tables.specs.Literal.{var, neg, opp, holds}
 use Rattle.tables.specs.Clause.{satisfies, satisfies_all}
 use Rattle.tables.proofs.Literals.{holds-opp, holds_by, holds_pos, holds-neg, holds_zero, holds_one}
 use Rattle.rules.specs.Forced.{marked}
 use Rattle.rules.specs.Pairs.{pairs, stands, replace, alone, starting, give_way, meet, join, leaders}
 use Rattle.settling.proofs.Forced.{Sound}
+
+-- what a variable stands for at first
+module _ (n : ℕ) (m : List ℕ) where
+  pub starting_size : length (starting n m) ≡ suc n
+  unfolding starting
+  starting_size = ap suc (length-map-range_with_len (alone m) 1 n)
+
+  pub starting_in : (v : ℕ) → 1 ≤ v → v ≤ n → stands (starting n m) v ≡ alone m v
+  unfolding starting stands
+  starting_in zero h k = absurd (omega arith)
+  starting_in (suc v) h k = get_or-map-range_with_len (alone m) 1 n v (suc v) _ (omega arith) (omega arith)
+
+  pub starting_is : (v : ℕ) → (stands (starting n m) v ≡ alone m v) ⊎ (stands (starting n m) v ≡ 2 * v)
+  unfolding starting stands
+  starting_is zero = inr refl
+  starting_is (suc v) =
+      ⊎_elim (λ h. inl (starting_in (suc v) (omega arith) (omega arith)))
+      (λ h. inr (get_or_past (map (alone m) (range_with_len 1 n)) v (2 * suc v) (rw (length-map-range_with_len (alone m) 1 n) h))) (cases_lt v n)
 
 module _ (a : ℕ → Bool) where
   -- each variable has the value of the literal that it stands for
@@ -45,9 +59,7 @@ module _ (a : ℕ → Bool) where
 
   -- a change of literals that keeps their truth keeps that of every place
   map_holds : (f : ℕ → ℕ) → ((l : ℕ) → holds a (f l) ≡ holds a l) → (s : List ℕ) (v d : ℕ) → holds a (get_or (map f s) v d) ≡ holds a (get_or s v d)
-  map_holds f h [] v d = refl
-  map_holds f h (x ∷ s) zero d = h x
-  map_holds f h (x ∷ s) (suc v) d = map_holds f h s v d
+  map_holds f h s v d = ⊎_elim (λ q. ap (holds a) q ∙ h (get_or s v d)) (λ q. ap (holds a) (q.0 ∙ sym q.1)) (map_cases f s v d d)
 
   meet_agrees : (p q : ℕ) (s : List ℕ) → holds a p ≡ holds a q → Agrees s → Agrees (meet p q s)
   unfolding meet stands
@@ -69,14 +81,8 @@ module _ (a : ℕ → Bool) where
   opposed (x ∷ y ∷ []) e g h = go (holds a x) (holds a y) g (rw (holds-opp a x, holds-opp a y) at h)
     where
       go : (p q : Bool) → (p || (q || false)) ≡ true → (not p || (not q || false)) ≡ true → p ≡ not q
-      go true true g h = sym h
-      go true false g h = refl
-      go false true g h = refl
-      go false false g h = g
-  opposed (x ∷ y ∷ z ∷ c) e g h = absurd (no (eqb-true _ _ e))
-    where
-      no : suc (suc (suc (length c))) ≡ 2 → ⊥
-      no q = omega arith
+      go p q g h = search rules
+  opposed (x ∷ y ∷ z ∷ c) e g h = let q : suc (suc (suc (length c))) ≡ 2 = eqb-true _ _ e in absurd (omega arith)
 
   pub pairs_opposed : (ds : List (List ℕ)) → satisfies_all a ds ≡ true → (c : List ℕ) → Memᴰ c (pairs ds) → Opposed c
   unfolding pairs satisfies_all
@@ -101,15 +107,8 @@ module _ (a : ℕ → Bool) where
         go false e true f = holds_zero a zero_is ∙ sym (not-true (a v) (sym (holds-neg a v) ∙ sound (2 * v + 1) f))
         go false e false f = holds_pos a v
 
-    start : (b k v : ℕ) → holds a (get_or (map (alone m) (range_with_len b k)) v (2 * (b + v))) ≡ a (b + v)
-    start b zero v = holds_pos a (b + v)
-    start b (suc k) zero = let e : b + 0 ≡ b = omega arith in rw e (alone-holds b)
-    start b (suc k) (suc v) = let e : b + suc v ≡ b + 1 + v = omega arith in rw e (start (b + 1) k v)
-
     begin : (n : ℕ) → Agrees (starting n m)
-    unfolding stands starting
-    begin n zero = holds_zero a zero_is ∙ sym zero_is
-    begin n (suc v) = let e : 1 + v ≡ suc v = omega arith in rw e at (start 1 n v)
+    begin n v = ⊎_elim (λ e. ap (holds a) e ∙ alone-holds v) (λ e. ap (holds a) e ∙ holds_pos a v) (starting_is n m v)
 
     pub leaders_agree : (n : ℕ) (ds : List (List ℕ)) → satisfies_all a ds ≡ true → Agrees (leaders n m (pairs ds))
     unfolding leaders

@@ -1,16 +1,10 @@
 -- The cleaned clauses are proper: their literals rise, and no variable stands twice in one.
-use Prim.Native.Nat.{ℕ, ◌≤◌, ◌<◌}
-use mathlib.Core.Path.{◌≡◌, refl, sym, subst}
-use mathlib.Core.Bool.{Bool, true, false, cond, ◌||◌}
+use Rattle.std.proofs.Common.{◌≡◌, ℕ, ◌<◌, ◌≤◌, Bool, true, false, cond, ◌||◌, eqb, ltb, List, [], ◌∷◌, ◌++◌, sym, refl, subst, ⊎_elim, arith, ltb-false, ltb-true}
 use mathlib.Core.List.Memᴰ
-use mathlib.Core.List.{List, [], ◌∷◌, ◌++◌, Memᴰ}
-use mathlib.Core.Logic.{⊎_elim}
-use native.Mathlib.Omega.{arith}
-use lib.Dec.{eqb, ltb}
-use borrow.Author.Tests.{eqb-true, eqb-false, ltb-true, ltb-false}
+use mathlib.Core.List.{Memᴰ}
 use Rattle.std.specs.List.{list_any}
+use Rattle.std.proofs.lemmas.Bool.{eqb-false, both_ways, cond_both}
 use Rattle.ways.specs.Ways.{among}
-use Rattle.ways.proofs.Bools.{never_both}
 use Rattle.ways.proofs.Runs.{fold_keeps}
 use Rattle.ways.proofs.Rows.{mem-list_any}
 use Rattle.ways.proofs.Members.{mem-has}
@@ -38,10 +32,7 @@ pub record Proper (c : List ℕ) : Type 0 where
 
 pub rising_distinct : {xs : List ℕ} → Rising xs → Distinct xs
 rising_distinct nil = none
-rising_distinct (cons {x = x} h r) = more (λ i. no (h x i)) (rising_distinct r)
-  where
-    no : x < x → ⊥
-    no q = omega arith
+rising_distinct (cons {x = x} h r) = more (λ i. let q : x < x = h x i in absurd (omega arith)) (rising_distinct r)
 
 insert_rising : (x : ℕ) {ys : List ℕ} → Rising ys → Rising (insert x ys)
 unfolding insert
@@ -65,19 +56,18 @@ record Tidy (c d : List ℕ) : Type 0 where
 
 tidy_is : (m c : List ℕ) → Tidy c (tidy m c)
 unfolding tidy tidy_step
-tidy_is m c = fold_keeps (tidy_step m) (Tidy c) c (λ out x i t. go out x i t (marked m (opp x))) [] (record { rises = nil; inside = λ l i. absurd (Memᴰ.not-nil i) })
-  where
-    go : (out : List ℕ) (x : ℕ) → Memᴰ x c → Tidy c out → (b : Bool) → Tidy c (cond b out (insert x out))
-    go out x i t true = t
-    go out x i t false = record { rises = insert_rising x t.rises; inside = λ l j. ⊎_elim (λ q. Memᴰ.cast q i) (t.inside l) (insert_in x out l j) }
+tidy_is m c =
+    fold_keeps (tidy_step m) (Tidy c) c
+    (λ out x i t. cond_both (marked m (opp x)) out (insert x out) (Tidy c) (λ e. t)
+    (λ e. record { rises = insert_rising x t.rises; inside = λ l j. ⊎_elim (λ q. Memᴰ.cast q i) (t.inside l) (insert_in x out l j) }))
+    [] (record { rises = nil; inside = λ l i. absurd (Memᴰ.not-nil i) })
 
 tidy_proper : (c d : List ℕ) → void c ≡ false → Tidy c d → Proper d
 unfolding void
-tidy_proper c d v t = record { rises = t.rises; single = λ x y i j e. one x y (t.inside x i) (t.inside y j) e (eqb x y) refl }
+tidy_proper c d v t = record { rises = t.rises; single = λ x y i j e. ⊎_elim (λ r. r) (λ r. absurd (other x y (t.inside x i) (t.inside y j) r)) (same_var x y e) }
   where
-    one : (x y : ℕ) → Memᴰ x c → Memᴰ y c → var x ≡ var y → (b : Bool) → eqb x y ≡ b → x ≡ y
-    one x y i j e true q = eqb-true x y q
-    one x y i j e false q = ⊎_elim (λ r. r) (λ r. absurd (never_both (mem-list_any _ c y j (mem-has (opp y) c (Memᴰ.cast (sym r) i))) v)) (same_var x y e)
+    other : (x y : ℕ) → Memᴰ x c → Memᴰ y c → x ≡ opp y → ⊥
+    other x y i j r = both_ways (void c) v (mem-list_any _ c y j (mem-has (opp y) c (Memᴰ.cast (sym r) i)))
 
 pub clean_proper : (m : List ℕ) (cs : List (List ℕ)) (c : List ℕ) → Memᴰ c (clean m cs) → Proper c
 unfolding clean clean_step add

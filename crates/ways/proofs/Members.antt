@@ -1,10 +1,11 @@
 -- Laws of membership: in rows of numbers, in rows of rows, in ranges, and at a place.
-use Rattle.std.proofs.Common.{◌≡◌, ℕ, zero, suc, ◌+◌, ◌<◌, ◌≤◌, true, eqb, List, [], ◌∷◌, length, get_or, flat_map, refl, subst, ⊎_elim, arith, eq-eqb, eqb-true}
+use Rattle.std.proofs.Common.{◌≡◌, ℕ, zero, suc, ◌+◌, ◌<◌, ◌≤◌, true, eqb, ◌⊎◌, List, [], ◌∷◌, length, get_or, set, replicate, flat_map, refl, ap, subst, inl, inr, ⊎_elim, arith, get_or-set_other, get_or-set_same, eq-eqb, eqb-true, map}
 use mathlib.Core.List.Memᴰ
 use mathlib.Core.List.{Memᴰ}
 use Rattle.std.specs.List.{range_with_len}
 use Rattle.std.specs.Cmp.Lexicographic.{bytes_decides}
-use Rattle.std.proofs.lemmas.Bool.{cases_eq}
+use Rattle.std.proofs.lemmas.Bool.{cases_eq, cases_lt}
+use Rattle.std.proofs.lemmas.List.{get_or-replicate, get_or_past, length-replicate, set_past, get_or-map, length-map}
 use Rattle.ways.specs.Ways.{has, same, among}
 use Rattle.ways.proofs.Rows.{list_any-mem, mem-list_any}
 
@@ -46,3 +47,19 @@ pub get_or-mem : {X : Type 0} (c : List X) (i : ℕ) (d : X) → i < length c �
 get_or-mem [] i d h = absurd (omega arith)
 get_or-mem (x ∷ c) zero d h = Memᴰ.head refl
 get_or-mem (x ∷ c) (suc i) d h = Memᴰ.tail (get_or-mem c i d (omega arith))
+
+-- A place of a row of equal elements, or beyond it.
+pub get_or_same : {X : Type 0} (k v : ℕ) (d : X) → get_or (replicate k d) v d ≡ d
+get_or_same k v d = ⊎_elim (get_or-replicate k v d d) (λ h. get_or_past (replicate k d) v d (rw (length-replicate k d) h)) (cases_lt v k)
+
+-- A place of a row where one element was written: what was written, or what was there.
+pub set_cases : {X : Type 0} (xs : List X) (i j : ℕ) (y d : X) → (get_or (set xs i y) j d ≡ y) ⊎ (get_or (set xs i y) j d ≡ get_or xs j d)
+set_cases xs i j y d =
+    ⊎_elim
+    (λ e. ⊎_elim (λ h. inl (rw e (get_or-set_same xs i y d h))) (λ h. inr (ap (λ zs. get_or zs j d) (set_past xs i y h))) (cases_lt i (length xs)))
+    (λ n. inr (get_or-set_other xs i j y d n)) (cases_eq j i)
+
+-- A place of a mapped row, or beyond it.
+pub map_cases : {X Y : Type 0} (f : X → Y) (xs : List X) (i : ℕ) (d : X) (e : Y) → (get_or (map f xs) i e ≡ f (get_or xs i d)) ⊎ ((get_or (map f xs) i e ≡ e) × (get_or xs i d ≡ d))
+map_cases f xs i d e =
+    ⊎_elim (λ h. inl (get_or-map f xs i d e h)) (λ h. inr (get_or_past (map f xs) i e (rw (length-map xs f) h), get_or_past xs i d h)) (cases_lt i (length xs))
