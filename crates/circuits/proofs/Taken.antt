@@ -1,19 +1,11 @@
 -- The gates taken, by any rule that allows no more than 01's: each is found in the settled table, says what its pattern says,
 -- and together they stand in an order of evaluation.
-use Prim.Native.Nat.{ℕ, ◌*◌, ◌≤◌}
-use mathlib.Core.Path.{◌≡◌, refl, sym, ap, ◌∙◌, subst}
-use mathlib.Core.Bool.{Bool, true, false, cond, not}
+use Rattle.std.proofs.Common.{◌≡◌, ℕ, ◌*◌, ◌≤◌, Bool, true, false, cond, not, ltb, ◌⊎◌, ◌↔◌, List, [], ◌∷◌, map, length, filter, sym, refl, ap, ◌∙◌, subst, inl, inr, ⊎_elim, arith}
 use mathlib.Core.List.Memᴰ
-use mathlib.Core.List.{List, [], ◌∷◌, map, Memᴰ}
-use mathlib.Core.Logic.{◌⊎◌, inl, inr, ⊎_elim, ◌↔◌}
-use native.Mathlib.Omega.{arith}
-use lib.ListN.{length}
-use lib.Dec.{ltb}
-use borrow.Author.Tests.{eqb-false, not-true}
-use Rattle.std.specs.List.{filter}
+use mathlib.Core.List.{Memᴰ}
+use Rattle.std.proofs.lemmas.Bool.{eqb-false, not-true, cases_Bool}
 use Rattle.ways.proofs.Runs.{fold_keeps}
 use Rattle.ways.proofs.Rows.{filter-mem}
-use Rattle.ways.proofs.Members.{map-mem}
 use Rattle.tables.specs.Literal.{var, neg, opp}
 use Rattle.tables.specs.Clause.{satisfies_all}
 use Rattle.tables.proofs.Literals.{var-opp, var_pos}
@@ -48,11 +40,11 @@ module _ (c : List ℕ) (o : ℕ) where
     where
       go : (b : Bool) → Memᴰ x (cond b (others o c) (map opp (others o c))) → (l : ℕ) × Memᴰ l (others o c) × (var l ≡ var x)
       go true j = (x, j, refl)
-      go false j = let (y, k, q) = map-mem opp (others o c) x j in (y, k, sym (var-opp y) ∙ ap var (sym q))
+      go false j = let (y, k, q) = Memᴰ.of_map opp (others o c) j in (y, k, sym (var-opp y) ∙ ap var q)
 
   pub parity_input : (x : ℕ) → Memᴰ x (parity c o).inputs → (l : ℕ) × Memᴰ l (others o c) × (var l ≡ var x)
   unfolding parity
-  parity_input x j = let (y, k, q) = map-mem (λ x. 2 * var x) (others o c) x j in (y, k, sym (var_pos (var y)) ∙ ap var (sym q))
+  parity_input x j = let (y, k, q) = Memᴰ.of_map (λ x. 2 * var x) (others o c) j in (y, k, sym (var_pos (var y)) ∙ ap var q)
 
   pub others_in : (x : ℕ) → Memᴰ x (others o c) → Memᴰ x c
   unfolding others
@@ -68,7 +60,7 @@ module _ (n : ℕ) (cs : List (List ℕ)) (inside : Inside n cs) (proper : (c : 
   unfolding candidates and_form parity
   candidate_valid c k g i =
       let (j, t) = filter-mem (found cs) _ g i in
-      ⊎_elim (λ j. from_parity (anchors cs c) j t) (λ j. let (o, w, q) = map-mem (and_form c) c g j in subst (Valid n cs) (sym q) (and_valid o w (ap (found cs) (sym q) ∙ t)))
+      ⊎_elim (λ j. from_parity (anchors cs c) j t) (λ j. let (o, w, q) = Memᴰ.of_map (and_form c) c j in subst (Valid n cs) q (and_valid o w (ap (found cs) q ∙ t)))
       (Memᴰ.append_cases (cond (anchors cs c) (map (parity c) c) []) j)
     where
       and_valid : (o : ℕ) → Memᴰ o c → found cs (and_form c o) ≡ true → Valid n cs (and_form c o)
@@ -104,7 +96,7 @@ module _ (n : ℕ) (cs : List (List ℕ)) (inside : Inside n cs) (proper : (c : 
           }
 
       from_parity : (b : Bool) → Memᴰ g (cond b (map (parity c) c) []) → found cs g ≡ true → Valid n cs g
-      from_parity true j t = let (o, w, q) = map-mem (parity c) c g j in subst (Valid n cs) (sym q) (parity_valid o w (ap (found cs) (sym q) ∙ t))
+      from_parity true j t = let (o, w, q) = Memᴰ.of_map (parity c) c j in subst (Valid n cs) q (parity_valid o w (ap (found cs) q ∙ t))
       from_parity false j t = absurd (Memᴰ.not-nil j)
 
   pub record Taken (gs : List Gate) : Type 0 where
@@ -132,16 +124,13 @@ module _ (n : ℕ) (cs : List (List ℕ)) (inside : Inside n cs) (proper : (c : 
     first_taken : (gs more : List Gate) → ((g : Gate) → Memᴰ g more → Valid n cs g) → Taken gs → Taken (take_first may n gs more)
     unfolding take_first
     first_taken gs [] h t = t
-    first_taken gs (g ∷ more) h t = go (may gs g) refl (first_taken gs more (λ f i. h f (Memᴰ.tail i)) t)
-      where
-        go : (b : Bool) → may gs g ≡ b → Taken (take_first may n gs more) → Taken (elim b as (λ _. List Gate) [ true ↦ place n gs g | false ↦ take_first may n gs more ])
-        go true e k = place_taken gs g t (h g (Memᴰ.head refl)) (strict gs g e)
-        go false e k = k
+    first_taken gs (g ∷ more) h t =
+        ⊎_elim (λ (e : may gs g ≡ true). rw (take_first, e) (place_taken gs g t (h g (Memᴰ.head refl)) (strict gs g e))) (λ (e : may gs g ≡ false). rw (take_first, e) (first_taken gs more (λ f i. h f (Memᴰ.tail i)) t))
+        (cases_Bool (may gs g))
 
     pub taken_is : Taken (taken_by may n cs)
     unfolding taken_by take_at
-    taken_is = fold_keeps (take_at may n cs) Taken cs (λ gs c i t. go gs c i t (ltb 2 (length c))) [] (record { order = none; valid = λ g i. absurd (Memᴰ.not-nil i) })
+    taken_is = fold_keeps (take_at may n cs) Taken cs step [] (record { order = none; valid = λ g i. absurd (Memᴰ.not-nil i) })
       where
-        go : (gs : List Gate) (c : List ℕ) → Memᴰ c cs → Taken gs → (b : Bool) → Taken (elim b as (λ _. List Gate) [ true ↦ take_first may n gs (candidates cs c) | false ↦ gs ])
-        go gs c i t true = first_taken gs (candidates cs c) (candidate_valid c i) t
-        go gs c i t false = t
+        step : (gs : List Gate) (c : List ℕ) → Memᴰ c cs → Taken gs → Taken (take_at may n cs gs c)
+        step gs c i t = ⊎_elim (λ (e : ltb 2 (length c) ≡ true). rw (take_at, e) (first_taken gs (candidates cs c) (candidate_valid c i) t)) (λ (e : ltb 2 (length c) ≡ false). rw (take_at, e) t) (cases_Bool (ltb 2 (length c)))
