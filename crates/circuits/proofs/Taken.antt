@@ -63,37 +63,30 @@ module _ (n : ℕ) (cs : List (List ℕ)) (inside : Inside n cs) (proper : (c : 
       ⊎_elim (λ j. from_parity (anchors cs c) j t) (λ j. let (o, w, q) = Memᴰ.of_map (and_form c) c j in subst (Valid n cs) q (and_valid o w (ap (found cs) q ∙ t)))
       (Memᴰ.append_cases (cond (anchors cs c) (map (parity c) c) []) j)
     where
-      and_valid : (o : ℕ) → Memᴰ o c → found cs (and_form c o) ≡ true → Valid n cs (and_form c o)
-      and_valid o w t =
+      valid : (g : Gate) (o : ℕ) → Memᴰ o c → g.output ≡ var o → found cs g ≡ true → ((x : ℕ) → Memᴰ x g.inputs → (l : ℕ) × Memᴰ l (others o c) × (var l ≡ var x))
+          → ((a : ℕ → Bool) → (satisfies_all a g.pattern ≡ true) ↔ Meets a g) → Speaks g → written_out g ≡ g.pattern → Valid n cs g
+      valid g o w e t inputs meets speaks written =
           record {
             there = t;
-            self = λ x j e. let (l, h, q) = and_input c o x j in others_apart c o (proper c k) w l h (q ∙ e);
-            low = (inside c k o w).0;
-            high = (inside c k o w).1;
-            meets = λ a. and_meets a c o w;
-            speaks = and_speaks c o w;
-            written = and_written c o (proper c k) w;
+            self = λ x j q. let (l, h, r) = inputs x j in others_apart c o (proper c k) w l h (r ∙ q ∙ e);
+            low = rw e (inside c k o w).0;
+            high = rw e (inside c k o w).1;
+            meets = meets;
+            speaks = speaks;
+            written = written;
             anchor = c;
             anchored = k;
-            output_of = (o, w, refl);
-            input_of = λ x j. let (l, h, q) = and_input c o x j in (l, others_in c o l h, q);
+            output_of = (o, w, sym e);
+            input_of = λ x j. let (l, h, r) = inputs x j in (l, others_in c o l h, r);
           }
+
+      and_valid : (o : ℕ) → Memᴰ o c → found cs (and_form c o) ≡ true → Valid n cs (and_form c o)
+      and_valid o w t = valid (and_form c o) o w refl t (and_input c o) (λ a. and_meets a c o w) (and_speaks c o w) (and_written c o (proper c k) w)
 
       parity_valid : (o : ℕ) → Memᴰ o c → found cs (parity c o) ≡ true → Valid n cs (parity c o)
       parity_valid o w t =
-          record {
-            there = t;
-            self = λ x j e. let (l, h, q) = parity_input c o x j in others_apart c o (proper c k) w l h (q ∙ e);
-            low = (inside c k o w).0;
-            high = (inside c k o w).1;
-            meets = λ a. parity_meets a c o (rising_distinct (proper c k).rises) w;
-            speaks = parity_speaks c o w;
-            written = parity_written c o (proper c k) w;
-            anchor = c;
-            anchored = k;
-            output_of = (o, w, refl);
-            input_of = λ x j. let (l, h, q) = parity_input c o x j in (l, others_in c o l h, q);
-          }
+          valid (parity c o) o w refl t (parity_input c o) (λ a. parity_meets a c o (rising_distinct (proper c k).rises) w) (parity_speaks c o w)
+          (parity_written c o (proper c k) w)
 
       from_parity : (b : Bool) → Memᴰ g (cond b (map (parity c) c) []) → found cs g ≡ true → Valid n cs g
       from_parity true j t = let (o, w, q) = Memᴰ.of_map (parity c) c j in subst (Valid n cs) q (parity_valid o w (ap (found cs) q ∙ t))

@@ -1,6 +1,6 @@
 -- Which variables a pattern speaks of, and that a gate's kind, output and inputs say the whole pattern: written out again
 -- they are its clauses.
-use Rattle.std.proofs.Common.{◌≡◌, ℕ, ◌+◌, ◌*◌, ◌<◌, Bool, true, false, cond, not, eqb, ltb, ◌⊎◌, List, [], ◌∷◌, map, sym, refl, ap, ◌∙◌, subst, inl, inr, ⊎_elim, arith, le-ltb, lt-ltb, eq-eqb, ne_eqb, eqb-true, map-id, get_or}
+use Rattle.std.proofs.Common.{◌≡◌, ℕ, ◌+◌, ◌*◌, ◌<◌, Bool, true, false, cond, not, eqb, ltb, ◌⊎◌, List, [], ◌∷◌, map, sym, refl, ap, ◌∙◌, subst, inl, inr, ⊎_elim, arith, le-ltb, lt-ltb, eq-eqb, ne_eqb, map-id, get_or, ap₂}
 use mathlib.Core.List.Memᴰ
 use mathlib.Core.List.{Memᴰ}
 use Rattle.std.proofs.lemmas.Bool.{cases_eq}
@@ -15,7 +15,7 @@ use Rattle.tables.proofs.Literals.{var_pos, var-neg, var_mono, var-opp, opp-opp,
 use Rattle.rules.specs.Clean.{insert}
 use Rattle.rules.specs.Kinds.{signs, and_kind, parity_kind}
 use Rattle.rules.specs.Patterns.{Gate, others, side, and_inputs, and_form, signings, odd, group, parity, output_literal, anchor_rest, written_out}
-use Rattle.settling.proofs.Clean.{insert_in}
+use Rattle.settling.proofs.Clean.{insert_in, insert_cases}
 use Rattle.settling.proofs.Proper.{Rising, nil, cons, Proper}
 
 -- Each clause of the pattern has a literal of the output, and only literals of the output and the inputs.
@@ -27,12 +27,7 @@ pub record Speaks (g : Gate) : Type 0 where
 pub insert-has : (x : ℕ) (ys : List ℕ) → Memᴰ x (insert x ys)
 unfolding insert
 insert-has x [] = Memᴰ.head refl
-insert-has x (y ∷ ys) = go (eqb x y) refl (ltb x y) (insert-has x ys)
-  where
-    go : (b : Bool) → eqb x y ≡ b → (c : Bool) → Memᴰ x (insert x ys) → Memᴰ x (cond b (y ∷ ys) (cond c (x ∷ y ∷ ys) (y ∷ insert x ys)))
-    go true e c h = Memᴰ.head (eqb-true x y e)
-    go false e true h = Memᴰ.head refl
-    go false e false h = Memᴰ.tail h
+insert-has x (y ∷ ys) = insert_cases x y ys (Memᴰ x) Memᴰ.head (λ l. Memᴰ.head refl) (λ l. Memᴰ.tail (insert-has x ys))
 
 -- The anchor's literals: the output's, or the variable of an input.
 module _ (c : List ℕ) (o : ℕ) where
@@ -59,14 +54,11 @@ module _ (c : List ℕ) (o : ℕ) where
     unfolding and_form side
     and_speaks =
         record {
-          output_in = λ d k. ⊎_elim (λ e. (o, mem_mv (sym e) i, refl)) (λ k. let (y, j, q) = Memᴰ.of_map (side o) (others o c) k in (opp o, subst (Memᴰ (opp o)) q (insert-has (opp o) (insert (opp y) [])), var-opp o)) (Memᴰ.cases_cons k);
+          output_in = λ d k. ⊎_elim (λ e. (o, subst (Memᴰ o) (sym e) i, refl)) (λ k. let (y, j, q) = Memᴰ.of_map (side o) (others o c) k in (opp o, subst (Memᴰ (opp o)) q (insert-has (opp o) (insert (opp y) [])), var-opp o)) (Memᴰ.cases_cons k);
           only = λ d k l j. ⊎_elim (λ e. in_anchor l (subst (Memᴰ l) e j)) (λ k. let (y, h, q) = Memᴰ.of_map (side o) (others o c) k in
               ⊎_elim inl (λ e. let (x, w, r) = as_and_input y h in inr (x, w, r ∙ sym e)) (side_only y l (subst (Memᴰ l) (sym q) j))) (Memᴰ.cases_cons k);
         }
       where
-        mem_mv : {d e : List ℕ} → d ≡ e → Memᴰ o d → Memᴰ o e
-        mem_mv q m = subst (Memᴰ o) q m
-
         in_anchor : (l : ℕ) → Memᴰ l c → (var l ≡ var o) ⊎ ((x : ℕ) × Memᴰ x (and_inputs c o) × (var x ≡ var l))
         in_anchor l j = ⊎_elim (λ e. inl (ap var e)) (λ h. inr (as_and_input l h)) (split_other l j)
 
@@ -77,12 +69,9 @@ signing_vars [] false d k = ⊎_elim (λ e. ap (map var) e) (λ k. absurd (Mem�
 signing_vars [] true d k = absurd (Memᴰ.not-nil k)
 signing_vars (v ∷ vs) p d k =
     ⊎_elim
-    (λ k. let (e, j, q) = Memᴰ.of_map (λ c. (2 * v) ∷ c) (signings vs p) k in ap (map var) (sym q) ∙ both (var_pos v) (signing_vars vs p e j))
-    (λ k. let (e, j, q) = Memᴰ.of_map (λ c. (2 * v + 1) ∷ c) (signings vs (not p)) k in ap (map var) (sym q) ∙ both (var-neg v) (signing_vars vs (not p) e j))
+    (λ k. let (e, j, q) = Memᴰ.of_map (λ c. (2 * v) ∷ c) (signings vs p) k in ap (map var) (sym q) ∙ ap₂ (λ x xs. x ∷ xs) (var_pos v) (signing_vars vs p e j))
+    (λ k. let (e, j, q) = Memᴰ.of_map (λ c. (2 * v + 1) ∷ c) (signings vs (not p)) k in ap (map var) (sym q) ∙ ap₂ (λ x xs. x ∷ xs) (var-neg v) (signing_vars vs (not p) e j))
     (Memᴰ.append_cases (map (λ c. (2 * v) ∷ c) (signings vs p)) {t = map (λ c. (2 * v + 1) ∷ c) (signings vs (not p))} k)
-  where
-    both : {x y : ℕ} {xs ys : List ℕ} → x ≡ y → xs ≡ ys → x ∷ xs ≡ y ∷ ys
-    both e f = rw (e, f)
 
 module _ (c : List ℕ) (o : ℕ) (i : Memᴰ o c) where
   pub parity_speaks : Speaks (parity c o)

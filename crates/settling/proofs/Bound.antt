@@ -1,8 +1,8 @@
 -- Each round that goes on leaves fewer roots: so n + 1 rounds are enough, and what they leave is settled.
-use Rattle.std.proofs.Common.{◌≡◌, ℕ, zero, suc, ◌+◌, ◌*◌, ◌<◌, ◌≤◌, Bool, true, false, cond, ◌&&◌, eqb, ltb, List, [], ◌∷◌, map, length, get_or, fold, filter, sym, refl, ap, ◌∙◌, subst, ⊎_elim, arith, eq-eqb, eqb-true}
+use Rattle.std.proofs.Common.{◌≡◌, ℕ, zero, suc, ◌+◌, ◌*◌, ◌<◌, ◌≤◌, Bool, true, false, ◌&&◌, eqb, List, [], ◌∷◌, map, length, get_or, fold, filter, sym, refl, ap, ◌∙◌, subst, ⊎_elim, arith, eq-eqb, eqb-true}
 use mathlib.Core.List.{Memᴰ}
 use Rattle.std.specs.List.{range_with_len}
-use Rattle.std.proofs.lemmas.Bool.{eqb-false, and_parts, cases_eq, false_from_ne_true, both_ways}
+use Rattle.std.proofs.lemmas.Bool.{and_parts, cases_eq, false_from_ne_true, both_ways}
 use Rattle.std.proofs.lemmas.List.{length-map, get_or-map}
 use Rattle.std.proofs.lemmas.List.FromFn.{length-range_with_len}
 use Rattle.std.proofs.lemmas.List.Sums.{length-filter, count_by-le-length}
@@ -13,27 +13,21 @@ use Rattle.ways.proofs.Rows.{filter-mem}
 use Rattle.ways.proofs.Members.{mem-range, get_or-mem}
 use Rattle.ways.proofs.Counts.{count_less}
 use Rattle.tables.specs.Literal.{var, opp}
-use Rattle.tables.proofs.Literals.{var_pos, var-opp, same_var}
+use Rattle.tables.proofs.Literals.{var_pos, var-opp}
 use Rattle.tables.proofs.Checked.{Inside}
 use Rattle.rules.specs.Forced.{forced}
 use Rattle.rules.specs.Pairs.{pairs, stands, replace, give_way, meet, join, starting, leaders, root}
 use Rattle.rules.specs.Rounds.{Round, stuck, ended, goes_on, round, Outcome, impossible, settled, after, rounds, outcome}
 use Rattle.settling.proofs.Proper.{Distinct, more, Proper, rising_distinct, clean_proper}
-use Rattle.settling.proofs.Roots.{Root, replace_pos, var-replace, way_other}
+use Rattle.settling.proofs.Roots.{Root, replace_pos, var-replace, way_other, way_var}
 use Rattle.settling.proofs.Round.{Good, Live, ds, s, s₀, st', new_at, roots_inv, round_cases, ds_live, next_good, last_good}
 use Rattle.settling.proofs.Models.{first_good}
-use Rattle.settling.proofs.Links.{starting_size}
+use Rattle.settling.proofs.Links.{starting_size, meet_cases}
 
 -- merging looks at variables only
 module _ (lo hi : ℕ) where
   way_hit : (l : ℕ) → var l ≡ var hi → var (give_way lo hi l) ≡ var lo
-  unfolding give_way
-  way_hit l e = go (eqb l hi) refl (eqb l (opp hi)) refl
-    where
-      go : (b : Bool) → eqb l hi ≡ b → (c : Bool) → eqb l (opp hi) ≡ c → var (cond b lo (cond c (opp lo) l)) ≡ var lo
-      go true p c q = refl
-      go false p true q = var-opp lo
-      go false p false q = absurd (⊎_elim (eqb-false l hi p) (eqb-false l (opp hi) q) (same_var l hi e))
+  way_hit l e = ⊎_elim (λ h. h) (λ h. absurd (h.1 e)) (way_var lo hi l)
 
   way_same : (k l : ℕ) → var k ≡ var l → var (give_way lo hi k) ≡ var (give_way lo hi l)
   way_same k l e =
@@ -50,31 +44,18 @@ module _ (u v : ℕ) (s : List ℕ) (lu : u < length s) (lv : v < length s) wher
   map_same f e = ap var (get_or-map f s u (2 * u) (2 * u) lu) ∙ e ∙ ap var (sym (get_or-map f s v (2 * v) (2 * v) lv))
 
   meet_same : (p q : ℕ) → Same s u v → Same (meet p q s) u v
-  unfolding meet
-  meet_same p q e = go (eqb (var p) (var q)) (ltb (var p) (var q))
-    where
-      go : (b c : Bool) → Same (cond b s (cond c (map (give_way p q) s) (map (give_way q p) s))) u v
-      go true c = e
-      go false true = map_same (give_way p q) (way_same p q (stands s u) (stands s v) e)
-      go false false = map_same (give_way q p) (way_same q p (stands s u) (stands s v) e)
+  meet_same p q e =
+      meet_cases p q s (λ r. Same r u v) (λ k. e) (λ l. map_same (give_way p q) (way_same p q (stands s u) (stands s v) e))
+      (λ l. map_same (give_way q p) (way_same q p (stands s u) (stands s v) e))
 
   meet_joins : (p q : ℕ) → var p ≡ var (stands s u) → var q ≡ var (stands s v) → Same (meet p q s) u v
-  unfolding meet
-  meet_joins p q e f = go (eqb (var p) (var q)) refl (ltb (var p) (var q))
-    where
-      go : (b : Bool) → eqb (var p) (var q) ≡ b → (c : Bool) → Same (cond b s (cond c (map (give_way p q) s) (map (give_way q p) s))) u v
-      go true k c = sym e ∙ eqb-true _ _ k ∙ f
-      go false k true = let n = eqb-false _ _ k in map_same (give_way p q) (ap var (way_other p q (stands s u) (λ w. n (e ∙ w))) ∙ sym e ∙ sym (way_hit p q (stands s v) (sym f)))
-      go false k false = let n = eqb-false _ _ k in map_same (give_way q p) (way_hit q p (stands s u) (sym e) ∙ f ∙ sym (ap var (way_other q p (stands s v) (λ w. n (sym w ∙ sym f)))))
+  meet_joins p q e f =
+      meet_cases p q s (λ r. Same r u v) (λ k. sym e ∙ k ∙ f)
+      (λ l. map_same (give_way p q) (ap var (way_other p q (stands s u) (λ w. omega (arith, l, e, w))) ∙ sym e ∙ sym (way_hit p q (stands s v) (sym f))))
+      (λ l. map_same (give_way q p) (way_hit q p (stands s u) (sym e) ∙ f ∙ sym (ap var (way_other q p (stands s v) (λ w. omega (arith, l, f, w))))))
 
 meet_size : (p q : ℕ) (s : List ℕ) → length (meet p q s) ≡ length s
-unfolding meet
-meet_size p q s = go (eqb (var p) (var q)) (ltb (var p) (var q))
-  where
-    go : (b c : Bool) → length (cond b s (cond c (map (give_way p q) s) (map (give_way q p) s))) ≡ length s
-    go true c = refl
-    go false true = length-map s (give_way p q)
-    go false false = length-map s (give_way q p)
+meet_size p q s = meet_cases p q s (λ r. length r ≡ length s) (λ e. refl) (λ l. length-map s (give_way p q)) (λ l. length-map s (give_way q p))
 
 -- the variables of a pair end in one class
 run_joins : (t c : List ℕ) (ps : List (List ℕ)) → var (get_or c 0 0) < length t → var (get_or c 1 0) < length t

@@ -1,8 +1,8 @@
 -- Pairs and classes: in an assignment that satisfies the clauses each variable has the value of what it stands for.
-use Rattle.std.proofs.Common.{◌≡◌, ℕ, zero, suc, ◌+◌, ◌*◌, Bool, true, false, cond, not, ◌||◌, eqb, ltb, List, [], ◌∷◌, map, length, get_or, sym, refl, ap, ◌∙◌, arith, eqb-true, rules, ⊎_elim, inl, inr, ◌⊎◌, ◌≤◌}
+use Rattle.std.proofs.Common.{◌≡◌, ℕ, zero, suc, ◌+◌, ◌*◌, Bool, true, false, cond, not, ◌||◌, eqb, ltb, List, [], ◌∷◌, map, length, get_or, sym, refl, ap, ◌∙◌, arith, eqb-true, rules, ⊎_elim, inl, inr, ◌⊎◌, ◌≤◌, ltb-true, ltb-false, ◌<◌}
 use mathlib.Core.List.{Memᴰ}
 use Rattle.std.specs.List.{range_with_len}
-use Rattle.std.proofs.lemmas.Bool.{not-true, and_parts, cases_lt}
+use Rattle.std.proofs.lemmas.Bool.{not-true, and_parts, cases_lt, cond_both, eqb-false}
 use Rattle.std.proofs.lemmas.List.{get_or_past}
 use Rattle.std.proofs.lemmas.List.FromFn.{get_or-map-range_with_len, length-map-range_with_len}
 use Rattle.ways.specs.Ways.{among}
@@ -35,6 +35,22 @@ module _ (n : ℕ) (m : List ℕ) where
       ⊎_elim (λ h. inl (starting_in (suc v) (omega arith) (omega arith)))
       (λ h. inr (get_or_past (map (alone m) (range_with_len 1 n)) v (2 * suc v) (rw (length-map-range_with_len (alone m) 1 n) h))) (cases_lt v n)
 
+-- what gives way to what: a literal, and the places of a row
+pub way_cases : (low high l : ℕ) (P : ℕ → Type 0) → (l ≡ high → P low) → (l ≡ opp high → P (opp low)) → ((l ≡ high → ⊥) → (l ≡ opp high → ⊥) → P l)
+    → P (give_way low high l)
+unfolding give_way
+way_cases low high l P f g h =
+    cond_both (eqb l high) low _ P (λ e. f (eqb-true _ _ e))
+    (λ e. cond_both (eqb l (opp high)) (opp low) l P (λ q. g (eqb-true _ _ q)) (λ q. h (eqb-false _ _ e) (eqb-false _ _ q)))
+
+pub meet_cases : (p q : ℕ) (s : List ℕ) (P : List ℕ → Type 0) → (var p ≡ var q → P s) → (var p < var q → P (map (give_way p q) s)) → (var q < var p → P (map (give_way q p) s))
+    → P (meet p q s)
+unfolding meet
+meet_cases p q s P f g h =
+    cond_both (eqb (var p) (var q)) s _ P (λ e. f (eqb-true _ _ e))
+    (λ e. cond_both (ltb (var p) (var q)) (map (give_way p q) s) (map (give_way q p) s) P (λ l. g (ltb-true _ _ l))
+    (λ l. let n = eqb-false _ _ e in let k = ltb-false _ _ l in h (omega arith)))
+
 module _ (a : ℕ → Bool) where
   -- each variable has the value of the literal that it stands for
   abbrev pub Agrees : List ℕ → Type 0
@@ -49,26 +65,19 @@ module _ (a : ℕ → Bool) where
       go false = h
 
   way_holds : (p q l : ℕ) → holds a p ≡ holds a q → holds a (give_way p q l) ≡ holds a l
-  unfolding give_way
-  way_holds p q l e = go (eqb l q) refl (eqb l (opp q)) refl
-    where
-      go : (b : Bool) → eqb l q ≡ b → (c : Bool) → eqb l (opp q) ≡ c → holds a (cond b p (cond c (opp p) l)) ≡ holds a l
-      go true f c g = e ∙ ap (holds a) (sym (eqb-true l q f))
-      go false f true g = holds-opp a p ∙ ap not e ∙ sym (holds-opp a q) ∙ ap (holds a) (sym (eqb-true l (opp q) g))
-      go false f false g = refl
+  way_holds p q l e =
+      way_cases p q l (λ k. holds a k ≡ holds a l) (λ f. e ∙ ap (holds a) (sym f))
+      (λ g. holds-opp a p ∙ ap not e ∙ sym (holds-opp a q) ∙ ap (holds a) (sym g)) (λ f g. refl)
 
   -- a change of literals that keeps their truth keeps that of every place
   map_holds : (f : ℕ → ℕ) → ((l : ℕ) → holds a (f l) ≡ holds a l) → (s : List ℕ) (v d : ℕ) → holds a (get_or (map f s) v d) ≡ holds a (get_or s v d)
   map_holds f h s v d = ⊎_elim (λ q. ap (holds a) q ∙ h (get_or s v d)) (λ q. ap (holds a) (q.0 ∙ sym q.1)) (map_cases f s v d d)
 
   meet_agrees : (p q : ℕ) (s : List ℕ) → holds a p ≡ holds a q → Agrees s → Agrees (meet p q s)
-  unfolding meet stands
-  meet_agrees p q s e h = go (eqb (var p) (var q)) (ltb (var p) (var q))
-    where
-      go : (b c : Bool) → (v : ℕ) → holds a (get_or (cond b s (cond c (map (give_way p q) s) (map (give_way q p) s))) v (2 * v)) ≡ a v
-      go true c v = h v
-      go false true v = map_holds (give_way p q) (λ l. way_holds p q l e) s v (2 * v) ∙ h v
-      go false false v = map_holds (give_way q p) (λ l. way_holds q p l (sym e)) s v (2 * v) ∙ h v
+  unfolding stands
+  meet_agrees p q s e h =
+      meet_cases p q s Agrees (λ k. h) (λ k v. map_holds (give_way p q) (λ l. way_holds p q l e) s v (2 * v) ∙ h v)
+      (λ k v. map_holds (give_way q p) (λ l. way_holds q p l (sym e)) s v (2 * v) ∙ h v)
 
   -- a pair: its two literals are opposites
   abbrev pub Opposed : List ℕ → Type 0

@@ -1,10 +1,8 @@
 -- The cleaned clauses are proper: their literals rise, and no variable stands twice in one.
-use Rattle.std.proofs.Common.{◌≡◌, ℕ, ◌<◌, ◌≤◌, Bool, true, false, cond, ◌||◌, eqb, ltb, List, [], ◌∷◌, ◌++◌, sym, refl, subst, ⊎_elim, arith, ltb-false, ltb-true}
+use Rattle.std.proofs.Common.{◌≡◌, ℕ, ◌<◌, false, List, [], ◌∷◌, sym, subst, ⊎_elim, arith}
 use mathlib.Core.List.Memᴰ
 use mathlib.Core.List.{Memᴰ}
-use Rattle.std.specs.List.{list_any}
-use Rattle.std.proofs.lemmas.Bool.{eqb-false, both_ways, cond_both}
-use Rattle.ways.specs.Ways.{among}
+use Rattle.std.proofs.lemmas.Bool.{both_ways, cond_both}
 use Rattle.ways.proofs.Runs.{fold_keeps}
 use Rattle.ways.proofs.Rows.{mem-list_any}
 use Rattle.ways.proofs.Members.{mem-has}
@@ -12,8 +10,8 @@ use Rattle.tables.specs.Literal.{var, opp}
 use Rattle.tables.specs.Clause.{void}
 use Rattle.tables.proofs.Literals.{same_var}
 use Rattle.rules.specs.Forced.{marked}
-use Rattle.rules.specs.Clean.{insert, tidy_step, tidy, add, clean_step, clean}
-use Rattle.settling.proofs.Clean.{insert_in}
+use Rattle.rules.specs.Clean.{insert, tidy_step, tidy, clean_step, clean}
+use Rattle.settling.proofs.Clean.{insert_in, insert_cases, clean_cases}
 
 -- No literal twice.
 pub data Distinct : List ℕ → Type 0 where
@@ -37,17 +35,10 @@ rising_distinct (cons {x = x} h r) = more (λ i. let q : x < x = h x i in absurd
 insert_rising : (x : ℕ) {ys : List ℕ} → Rising ys → Rising (insert x ys)
 unfolding insert
 insert_rising x nil = cons (λ y i. absurd (Memᴰ.not-nil i)) nil
-insert_rising x (cons {x = y} {xs = ys} h r) = go (eqb x y) refl (ltb x y) refl (insert_rising x r)
-  where
-    go : (b : Bool) → eqb x y ≡ b → (c : Bool) → ltb x y ≡ c → Rising (insert x ys) → Rising (cond b (y ∷ ys) (cond c (x ∷ y ∷ ys) (y ∷ insert x ys)))
-    go true e c f k = cons h r
-    go false e true f k =
-        let l : x < y = ltb-true x y f in
-        cons (λ z i. ⊎_elim (λ q. subst (λ t. x < t) (sym q) l) (λ j. let w = h z j in omega arith) (Memᴰ.cases_cons i)) (cons h r)
-    go false e false f k =
-        let l : y ≤ x = ltb-false x y f in let d : x ≡ y → ⊥ = eqb-false x y e in
-        let m : y < x = omega arith in
-        cons (λ z i. ⊎_elim (λ q. subst (λ t. y < t) (sym q) m) (h z) (insert_in x ys z i)) k
+insert_rising x (cons {x = y} {xs = ys} h r) =
+    insert_cases x y ys Rising (λ e. cons h r)
+    (λ l. cons (λ z i. ⊎_elim (λ q. subst (λ t. x < t) (sym q) l) (λ j. let w = h z j in omega arith) (Memᴰ.cases_cons i)) (cons h r))
+    (λ m. cons (λ z i. ⊎_elim (λ q. subst (λ t. y < t) (sym q) m) (h z) (insert_in x ys z i)) (insert_rising x r))
 
 -- what a tidied clause is
 record Tidy (c d : List ℕ) : Type 0 where
@@ -70,14 +61,12 @@ tidy_proper c d v t = record { rises = t.rises; single = λ x y i j e. ⊎_elim 
     other x y i j r = both_ways (void c) v (mem-list_any _ c y j (mem-has (opp y) c (Memᴰ.cast (sym r) i)))
 
 pub clean_proper : (m : List ℕ) (cs : List (List ℕ)) (c : List ℕ) → Memᴰ c (clean m cs) → Proper c
-unfolding clean clean_step add
-clean_proper m cs = fold_keeps (clean_step m) All cs (λ out c i h. go out c h (void c) refl (list_any (marked m) c) (among (tidy m c) out)) [] (λ c i. absurd (Memᴰ.not-nil i))
+unfolding clean
+clean_proper m cs =
+    fold_keeps (clean_step m) All cs
+    (λ out c i h. clean_cases m out c All h
+    (λ v q d j. ⊎_elim (h d) (λ k. subst Proper (sym (Memᴰ.eq_of_singleton k)) (tidy_proper c (tidy m c) v (tidy_is m c))) (Memᴰ.append_cases out j)))
+    [] (λ c i. absurd (Memᴰ.not-nil i))
   where
     All : List (List ℕ) → Type 0
     All out = (c : List ℕ) → Memᴰ c out → Proper c
-
-    go : (out : List (List ℕ)) (c : List ℕ) → All out → (v : Bool) → void c ≡ v → (b e : Bool) → All (cond (v || b) out (cond e out (out ++ (tidy m c ∷ []))))
-    go out c h true q b e = h
-    go out c h false q true e = h
-    go out c h false q false true = h
-    go out c h false q false false = λ d i. ⊎_elim (h d) (λ j. subst Proper (sym (Memᴰ.eq_of_singleton j)) (tidy_proper c (tidy m c) q (tidy_is m c))) (Memᴰ.append_cases out i)

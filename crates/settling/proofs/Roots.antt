@@ -1,12 +1,12 @@
 -- What a variable stands for is a literal of a root, or a value: the invariant of a round's merges.
-use Rattle.std.proofs.Common.{◌≡◌, ℕ, ◌*◌, ◌<◌, ◌≤◌, Bool, true, false, cond, eqb, ltb, ◌⊎◌, List, map, length, get_or, sym, refl, ap, ◌∙◌, subst, inl, inr, ⊎_elim, arith, ltb-false, ltb-true, ne_eqb}
-use Rattle.std.proofs.lemmas.Bool.{eqb-false, cond_both}
+use Rattle.std.proofs.Common.{◌≡◌, ℕ, ◌*◌, ◌<◌, ◌⊎◌, List, map, length, get_or, sym, refl, ap, ◌∙◌, subst, inl, inr, ⊎_elim, arith, ne_eqb}
+use Rattle.std.proofs.lemmas.Bool.{cond_both}
 use Rattle.std.proofs.lemmas.List.{length-map}
 use Rattle.ways.proofs.Members.{map_cases}
 use Rattle.tables.specs.Literal.{var, neg, opp}
 use Rattle.tables.proofs.Literals.{var_pos, neg_pos, var-opp, low_var, same_var}
 use Rattle.rules.specs.Pairs.{stands, replace, alone, starting, give_way, meet, join, root}
-use Rattle.settling.proofs.Links.{starting_is}
+use Rattle.settling.proofs.Links.{starting_is, way_cases, meet_cases}
 
 -- u stands for itself
 abbrev pub Root : List ℕ → ℕ → Type 0
@@ -36,14 +36,9 @@ module _ (lo hi : ℕ) where
   way_other l h = rw (ne_eqb l hi (λ e. h (ap var e)), ne_eqb l (opp hi) (λ e. h (ap var e ∙ var-opp hi)))
 
   pub way_var : (l : ℕ) → (var (give_way lo hi l) ≡ var lo) ⊎ ((give_way lo hi l ≡ l) × (var l ≡ var hi → ⊥))
-  unfolding give_way
-  way_var l = go (eqb l hi) refl (eqb l (opp hi)) refl
-    where
-      go : (b : Bool) → eqb l hi ≡ b → (c : Bool) → eqb l (opp hi) ≡ c
-          → (var (cond b lo (cond c (opp lo) l)) ≡ var lo) ⊎ ((cond b lo (cond c (opp lo) l) ≡ l) × (var l ≡ var hi → ⊥))
-      go true e c f = inl refl
-      go false e true f = inl (var-opp lo)
-      go false e false f = inr (refl, λ q. ⊎_elim (eqb-false l hi e) (eqb-false l (opp hi) f) (same_var l hi q))
+  way_var l =
+      way_cases lo hi l (λ k. (var k ≡ var lo) ⊎ ((k ≡ l) × (var l ≡ var hi → ⊥))) (λ e. inl refl) (λ e. inl (var-opp lo))
+      (λ f g. inr (refl, λ q. ⊎_elim f g (same_var l hi q)))
 
   module _ (s : List ℕ) (less : var lo < var hi) (root : Root s (var lo)) where
     stays : (u : ℕ) → (u ≡ var hi → ⊥) → Root s u → Root (map (give_way lo hi) s) u
@@ -92,14 +87,7 @@ module _ (R : ℕ → Type 0) (s₀ : List ℕ) where
       }
 
   meet_inv : (p q : ℕ) (s : List ℕ) → Root s (var p) → Root s (var q) → R (var p) → R (var q) → Inv R s₀ s → Inv R s₀ (meet p q s)
-  unfolding meet
-  meet_inv p q s f g h k i = go (eqb (var p) (var q)) refl (ltb (var p) (var q)) refl
-    where
-      go : (b : Bool) → eqb (var p) (var q) ≡ b → (c : Bool) → ltb (var p) (var q) ≡ c
-          → Inv R s₀ (cond b s (cond c (map (give_way p q) s) (map (give_way q p) s)))
-      go true e c l = i
-      go false e true l = way_inv p q s (ltb-true _ _ l) f h i
-      go false e false l = let n : var p ≡ var q → ⊥ = eqb-false _ _ e in let m : var q ≤ var p = ltb-false _ _ l in way_inv q p s (omega arith) g k i
+  meet_inv p q s f g h k i = meet_cases p q s (Inv R s₀) (λ e. i) (λ l. way_inv p q s l f h i) (λ l. way_inv q p s l g k i)
 
   pub join_inv : (s c : List ℕ) → R (var (get_or c 0 0)) → R (var (get_or c 1 0)) → Inv R s₀ s → Inv R s₀ (join s c)
   unfolding join
