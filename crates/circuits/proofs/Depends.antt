@@ -1,8 +1,8 @@
 -- Dependence in 01's words, and that the marks of the definition are it.
 use Rattle.std.proofs.Common.{◌≡◌, ℕ, ◌+◌, ◌<◌, true, List, set, replicate, fold, sym, ap, ◌∙◌, ⊎_elim, length-set}
 use mathlib.Core.List.{Memᴰ}
-use Rattle.std.proofs.lemmas.List.{length-replicate}
 use Rattle.std.proofs.lemmas.Bool.{cond_both}
+use Rattle.std.proofs.lemmas.List.{length-replicate}
 use Rattle.ways.proofs.Bools.{clash_of}
 use Rattle.ways.proofs.Runs.{fold_keeps}
 use Rattle.ways.proofs.Rows.{mem-list_any, list_any-mem}

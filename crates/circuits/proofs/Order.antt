@@ -1,5 +1,5 @@
 -- The gates taken stand in an order of evaluation: each behind those that its inputs depend on. So they have no ring.
-use Rattle.std.proofs.Common.{◌≡◌, ℕ, zero, ◌+◌, ◌<◌, Bool, true, false, not, List, [], ◌∷◌, ◌++◌, length, set, replicate, fold, filter, sym, refl, ap, ◌∙◌, subst, ⊎_elim, length-set, get_or-set_same, eq-eqb, eqb}
+use Rattle.std.proofs.Common.{◌≡◌, ℕ, zero, ◌+◌, ◌<◌, Bool, true, false, not, eqb, List, [], ◌∷◌, ◌++◌, length, set, replicate, fold, filter, sym, refl, ap, ◌∙◌, subst, ⊎_elim, length-set, get_or-set_same, eq-eqb}
 use mathlib.Core.List.Memᴰ
 use mathlib.Core.List.{Memᴰ}
 use Rattle.std.specs.List.{list_any}

@@ -1,14 +1,14 @@
 -- A gate's pattern holds under an assignment exactly where the output has its kind's value of the inputs: the and-form
 -- once for every number of inputs, parity once for every width.
-use Rattle.std.proofs.Common.{◌≡◌, ℕ, ◌+◌, ◌*◌, Bool, true, false, cond, not, ◌&&◌, ◌||◌, ◌↔◌, List, [], ◌∷◌, ◌++◌, map, sym, refl, ap, ◌∙◌, ⊎_elim, eq-eqb, ne_eqb, rules}
+use Rattle.std.proofs.Common.{◌≡◌, ℕ, ◌+◌, ◌*◌, Bool, true, false, cond, not, ◌&&◌, ◌||◌, ◌↔◌, List, [], ◌∷◌, ◌++◌, map, sym, refl, ap, ◌∙◌, ⊎_elim, rules, eq-eqb, ne_eqb}
 use mathlib.Core.List.Memᴰ
 use mathlib.Core.List.{Memᴰ}
-use Rattle.std.specs.List.{list_any, list_all}
 use Rattle.std.specs.Cmp.{booleans_Decides}
+use Rattle.std.specs.List.{list_any, list_all}
 use Rattle.std.proofs.Math.Bool.{or-false, or-true, beq, xor}
 use Rattle.std.proofs.lemmas.Bool.{or_cases, or_left, or_right, cases_eq}
-use Rattle.std.proofs.lemmas.List.Folds.{list_all-map}
 use Rattle.std.proofs.lemmas.Bool.Decides.{Decides-at}
+use Rattle.std.proofs.lemmas.List.Folds.{list_all-map}
 use Rattle.ways.specs.Ways.{oddly}
 use Rattle.ways.proofs.Bools.{agree}
 use Rattle.ways.proofs.Rows.{list_any-mem, mem-list_any, filter-mem, mem-filter, list_all_alike, list_all-not, oddly-map}

@@ -3,7 +3,7 @@
 use Rattle.std.proofs.Common.{◌≡◌, ℕ, ◌*◌, ◌≤◌, Bool, true, false, cond, not, ltb, ◌⊎◌, ◌↔◌, List, [], ◌∷◌, map, length, filter, sym, refl, ap, ◌∙◌, subst, inl, inr, ⊎_elim, arith}
 use mathlib.Core.List.Memᴰ
 use mathlib.Core.List.{Memᴰ}
-use Rattle.std.proofs.lemmas.Bool.{eqb-false, not-true, cases_Bool}
+use Rattle.std.proofs.lemmas.Bool.{eqb-false, not-true, cases_Bool, cond_both}
 use Rattle.ways.proofs.Runs.{fold_keeps}
 use Rattle.ways.proofs.Rows.{filter-mem}
 use Rattle.tables.specs.Literal.{var, neg, opp}
@@ -15,8 +15,8 @@ use Rattle.rules.specs.Patterns.{Gate, others, and_inputs, and_form, parity, anc
 use Rattle.rules.specs.Taking.{candidates, dependents, allowed, place, take_first, take_at, taken_by}
 use Rattle.settling.proofs.Proper.{Proper, rising_distinct}
 use Rattle.circuits.proofs.Patterns.{Meets, and_meets, parity_meets}
-use Rattle.circuits.proofs.Written.{Speaks, and_speaks, parity_speaks, and_written, parity_written}
 use Rattle.circuits.proofs.Order.{Apart, Ordered, none, place_ordered}
+use Rattle.circuits.proofs.Written.{Speaks, and_speaks, parity_speaks, and_written, parity_written}
 
 -- What holds of each gate taken.
 pub record Valid (n : ℕ) (cs : List (List ℕ)) (g : Gate) : Type 0 where
@@ -36,11 +36,9 @@ module _ (c : List ℕ) (o : ℕ) where
   -- The inputs of a candidate are of the anchor's other variables.
   pub and_input : (x : ℕ) → Memᴰ x (and_form c o).inputs → (l : ℕ) × Memᴰ l (others o c) × (var l ≡ var x)
   unfolding and_form and_inputs
-  and_input x = go (neg o)
-    where
-      go : (b : Bool) → Memᴰ x (cond b (others o c) (map opp (others o c))) → (l : ℕ) × Memᴰ l (others o c) × (var l ≡ var x)
-      go true j = (x, j, refl)
-      go false j = let (y, k, q) = Memᴰ.of_map opp (others o c) j in (y, k, sym (var-opp y) ∙ ap var q)
+  and_input x =
+      cond_both (neg o) (others o c) (map opp (others o c)) (λ ys. Memᴰ x ys → (l : ℕ) × Memᴰ l (others o c) × (var l ≡ var x)) (λ e j. (x, j, refl))
+      (λ e j. let (y, k, q) = Memᴰ.of_map opp (others o c) j in (y, k, sym (var-opp y) ∙ ap var q))
 
   pub parity_input : (x : ℕ) → Memᴰ x (parity c o).inputs → (l : ℕ) × Memᴰ l (others o c) × (var l ≡ var x)
   unfolding parity
@@ -60,7 +58,7 @@ module _ (n : ℕ) (cs : List (List ℕ)) (inside : Inside n cs) (proper : (c : 
   unfolding candidates and_form parity
   candidate_valid c k g i =
       let (j, t) = filter-mem (found cs) _ g i in
-      ⊎_elim (λ j. from_parity (anchors cs c) j t) (λ j. let (o, w, q) = Memᴰ.of_map (and_form c) c j in subst (Valid n cs) q (and_valid o w (ap (found cs) q ∙ t)))
+      ⊎_elim (λ j. from_parity j t) (λ j. let (o, w, q) = Memᴰ.of_map (and_form c) c j in subst (Valid n cs) q (and_valid o w (ap (found cs) q ∙ t)))
       (Memᴰ.append_cases (cond (anchors cs c) (map (parity c) c) []) j)
     where
       valid : (g : Gate) (o : ℕ) → Memᴰ o c → g.output ≡ var o → found cs g ≡ true → ((x : ℕ) → Memᴰ x g.inputs → (l : ℕ) × Memᴰ l (others o c) × (var l ≡ var x))
@@ -88,9 +86,10 @@ module _ (n : ℕ) (cs : List (List ℕ)) (inside : Inside n cs) (proper : (c : 
           valid (parity c o) o w refl t (parity_input c o) (λ a. parity_meets a c o (rising_distinct (proper c k).rises) w) (parity_speaks c o w)
           (parity_written c o (proper c k) w)
 
-      from_parity : (b : Bool) → Memᴰ g (cond b (map (parity c) c) []) → found cs g ≡ true → Valid n cs g
-      from_parity true j t = let (o, w, q) = Memᴰ.of_map (parity c) c j in subst (Valid n cs) q (parity_valid o w (ap (found cs) q ∙ t))
-      from_parity false j t = absurd (Memᴰ.not-nil j)
+      from_parity : Memᴰ g (cond (anchors cs c) (map (parity c) c) []) → found cs g ≡ true → Valid n cs g
+      from_parity =
+          cond_both (anchors cs c) (map (parity c) c) [] (λ gs. Memᴰ g gs → found cs g ≡ true → Valid n cs g)
+          (λ e j t. let (o, w, q) = Memᴰ.of_map (parity c) c j in subst (Valid n cs) q (parity_valid o w (ap (found cs) q ∙ t))) (λ e j. absurd (Memᴰ.not-nil j))
 
   pub record Taken (gs : List Gate) : Type 0 where
     pub order : Ordered gs

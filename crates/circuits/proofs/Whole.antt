@@ -1,6 +1,6 @@
 -- A settled table with its gates taken: filled in from any values it is satisfied exactly where the residue is; an assignment
 -- that satisfies it is the one filled in from its own free values; and every variable has exactly one part.
-use Rattle.std.proofs.Common.{◌≡◌, ℕ, zero, suc, ◌+◌, ◌*◌, ◌<◌, ◌≤◌, Bool, true, false, not, ◌&&◌, eqb, ltb, ◌↔◌, List, length, get_or, fold, filter, sym, refl, ap, ◌∙◌, subst, arith, ext_get_or, le-ltb, eq-eqb, eqb-true, ⊎_elim}
+use Rattle.std.proofs.Common.{◌≡◌, ℕ, zero, suc, ◌+◌, ◌*◌, ◌<◌, ◌≤◌, Bool, true, false, not, ◌&&◌, eqb, ltb, ◌↔◌, List, length, get_or, fold, filter, sym, refl, ap, ◌∙◌, subst, ⊎_elim, arith, ext_get_or, le-ltb, eq-eqb, eqb-true}
 use mathlib.Core.List.Memᴰ
 use mathlib.Core.List.{Memᴰ}
 use Rattle.std.specs.List.{list_all, range_with_len}
@@ -25,10 +25,10 @@ use Rattle.settling.proofs.Bound.{Settled}
 use Rattle.circuits.proofs.Values.{rule_alike}
 use Rattle.circuits.proofs.Patterns.{Meets}
 use Rattle.circuits.proofs.Filled.{Within, bit_is, fill_other, fill_rules}
-use Rattle.circuits.proofs.Only.{NoOutput, fill_only}
-use Rattle.circuits.proofs.Asked.{gate_of_output, no_output, asked_is}
 use Rattle.circuits.proofs.Taken.{Taken, taken_is}
 use Rattle.circuits.proofs.Shared.{in_pattern_gate}
+use Rattle.circuits.proofs.Only.{NoOutput, fill_only}
+use Rattle.circuits.proofs.Asked.{gate_of_output, no_output, asked_is}
 
 -- The settled clauses hold exactly where the residue does and every taken gate's pattern does, since these are among them.
 split : (a : ℕ → Bool) (gs : List Gate) (cs : List (List ℕ)) → ((g : Gate) → Memᴰ g gs → found cs g ≡ true)

@@ -1,12 +1,12 @@
 -- Which variables a pattern speaks of, and that a gate's kind, output and inputs say the whole pattern: written out again
 -- they are its clauses.
-use Rattle.std.proofs.Common.{◌≡◌, ℕ, ◌+◌, ◌*◌, ◌<◌, Bool, true, false, cond, not, eqb, ltb, ◌⊎◌, List, [], ◌∷◌, map, sym, refl, ap, ◌∙◌, subst, inl, inr, ⊎_elim, arith, le-ltb, lt-ltb, eq-eqb, ne_eqb, map-id, get_or, ap₂}
+use Rattle.std.proofs.Common.{◌≡◌, ℕ, ◌+◌, ◌*◌, ◌<◌, Bool, true, false, cond, not, eqb, ltb, ◌⊎◌, List, [], ◌∷◌, map, get_or, sym, refl, ap, ◌∙◌, subst, ap₂, inl, inr, ⊎_elim, map-id, arith, le-ltb, lt-ltb, eq-eqb, ne_eqb}
 use mathlib.Core.List.Memᴰ
 use mathlib.Core.List.{Memᴰ}
-use Rattle.std.proofs.lemmas.Bool.{cases_eq}
-use Rattle.std.proofs.lemmas.Simd.{map-map}
-use Rattle.std.proofs.lemmas.List.Folds.{map_fixed}
 use Rattle.std.proofs.Math.Path.{fun_ext}
+use Rattle.std.proofs.lemmas.Bool.{cases_eq, cond_both}
+use Rattle.std.proofs.lemmas.List.Folds.{map_fixed}
+use Rattle.std.proofs.lemmas.Simd.{map-map}
 use Rattle.ways.proofs.Bools.{clash_of}
 use Rattle.ways.proofs.Rows.{mem-filter}
 use Rattle.ways.proofs.Counts.{filter_other}
@@ -37,11 +37,9 @@ module _ (c : List ℕ) (o : ℕ) where
 
   as_and_input : (l : ℕ) → Memᴰ l (others o c) → (x : ℕ) × Memᴰ x (and_inputs c o) × (var x ≡ var l)
   unfolding and_inputs
-  as_and_input l i = go (neg o)
-    where
-      go : (b : Bool) → (x : ℕ) × Memᴰ x (cond b (others o c) (map opp (others o c))) × (var x ≡ var l)
-      go true = (l, i, refl)
-      go false = (opp l, Memᴰ.map opp i, var-opp l)
+  as_and_input l i =
+      cond_both (neg o) (others o c) (map opp (others o c)) (λ ys. (x : ℕ) × Memᴰ x ys × (var x ≡ var l)) (λ e. (l, i, refl))
+      (λ e. (opp l, Memᴰ.map opp i, var-opp l))
 
   module _ (i : Memᴰ o c) where
     side_only : (y l : ℕ) → Memᴰ l (side o y) → (var l ≡ var o) ⊎ (var l ≡ var y)

@@ -1,8 +1,8 @@
 -- The proofs of the statements in specs/Demands.
-use Rattle.std.proofs.Common.{◌≡◌, ℕ, zero, suc, ◌*◌, ◌<◌, ◌≤◌, Bool, true, false, ◌&&◌, List, length, ℤ, flat_map, sym, refl, ap, ◌∙◌, subst, arith, eq-eqb, ⊎_elim}
+use Rattle.std.proofs.Common.{◌≡◌, ℕ, zero, suc, ◌*◌, ◌<◌, ◌≤◌, Bool, true, false, ◌&&◌, List, length, ℤ, flat_map, sym, refl, ap, ◌∙◌, subst, ⊎_elim, arith, eq-eqb}
 use mathlib.Core.List.{Memᴰ}
-use Rattle.std.specs.List.{list_all, range_with_len}
 use Rattle.std.specs.Cmp.{booleans_Decides}
+use Rattle.std.specs.List.{list_all, range_with_len}
 use Rattle.std.proofs.Math.Bool.{beq}
 use Rattle.std.proofs.lemmas.Bool.{and_from, and_parts, false_from_ne_true, both_ways, cases_lt}
 use Rattle.std.proofs.lemmas.Bool.Decides.{same_from_decides}
@@ -26,8 +26,8 @@ use Rattle.settling.proofs.Links.{Agrees}
 use Rattle.settling.proofs.Bound.{Settled}
 use Rattle.circuits.proofs.Patterns.{Meets}
 use Rattle.circuits.proofs.Levels.{level_is, level_rises, levels_low}
-use Rattle.circuits.proofs.Shared.{shared_once, give_back, residue_apart}
 use Rattle.circuits.proofs.Taken.{Taken}
+use Rattle.circuits.proofs.Shared.{shared_once, give_back, residue_apart}
 use Rattle.circuits.proofs.Whole.{settled_inside, are_taken, gates_within, one_part, through, through_zero, through_agrees, through_meets, through_free, filled_holds, through_is, filled_long, filled_bits, filled_value, filled_alike, filled_row, asked_value}
 use Rattle.demands.specs.Evening.{Settles}
 use Rattle.demands.specs.Demands.{agrees, SettlingExact, RoundsBounded, RefusalBounded, LinksToRoots, OnePart, LevelsRise, NoneShared, PatternSays, GiveBack, FilledSatisfies, OwnFilling, OthersIgnored, NonePossible, AskedIsFilled}

@@ -19,10 +19,10 @@ use Rattle.rules.specs.Forced.{forced}
 use Rattle.rules.specs.Pairs.{pairs, stands, replace, give_way, meet, join, starting, leaders, root}
 use Rattle.rules.specs.Rounds.{Round, stuck, ended, goes_on, round, Outcome, impossible, settled, after, rounds, outcome}
 use Rattle.settling.proofs.Proper.{Distinct, more, Proper, rising_distinct, clean_proper}
+use Rattle.settling.proofs.Links.{starting_size, meet_cases}
 use Rattle.settling.proofs.Roots.{Root, replace_pos, var-replace, way_other, way_var}
 use Rattle.settling.proofs.Round.{Good, Live, ds, s, s₀, st', new_at, roots_inv, round_cases, ds_live, next_good, last_good}
 use Rattle.settling.proofs.Models.{first_good}
-use Rattle.settling.proofs.Links.{starting_size, meet_cases}
 
 -- merging looks at variables only
 module _ (lo hi : ℕ) where

@@ -4,8 +4,8 @@ use mathlib.Core.List.{Memᴰ}
 use Rattle.std.proofs.lemmas.Bool.{cases_eq, cond_both, not-true, or_cases}
 use Rattle.ways.proofs.Bools.{clash_of}
 use Rattle.ways.proofs.Runs.{fold_keeps, iterate_keeps}
-use Rattle.ways.proofs.Members.{get_or_same}
 use Rattle.ways.proofs.Rows.{list_all-mem, list_any-mem}
+use Rattle.ways.proofs.Members.{get_or_same}
 use Rattle.tables.specs.Literal.{opp, holds}
 use Rattle.tables.specs.Clause.{void, satisfies, satisfies_all}
 use Rattle.tables.proofs.Literals.{holds-opp}

@@ -1,5 +1,5 @@
 -- Pairs and classes: in an assignment that satisfies the clauses each variable has the value of what it stands for.
-use Rattle.std.proofs.Common.{◌≡◌, ℕ, zero, suc, ◌+◌, ◌*◌, Bool, true, false, cond, not, ◌||◌, eqb, ltb, List, [], ◌∷◌, map, length, get_or, sym, refl, ap, ◌∙◌, arith, eqb-true, rules, ⊎_elim, inl, inr, ◌⊎◌, ◌≤◌, ltb-true, ltb-false, ◌<◌}
+use Rattle.std.proofs.Common.{◌≡◌, ℕ, zero, suc, ◌+◌, ◌*◌, ◌<◌, ◌≤◌, Bool, true, false, cond, not, eqb, ltb, ◌⊎◌, List, [], ◌∷◌, map, length, get_or, sym, refl, ap, ◌∙◌, inl, inr, ⊎_elim, arith, rules, ltb-false, ltb-true, eqb-true}
 use mathlib.Core.List.{Memᴰ}
 use Rattle.std.specs.List.{range_with_len}
 use Rattle.std.proofs.lemmas.Bool.{not-true, and_parts, cases_lt, cond_both, eqb-false}
@@ -87,10 +87,7 @@ module _ (a : ℕ → Bool) where
   unfolding satisfies
   opposed [] e g h = clash_of (sym e)
   opposed (x ∷ []) e g h = clash_of (sym e)
-  opposed (x ∷ y ∷ []) e g h = go (holds a x) (holds a y) g (rw (holds-opp a x, holds-opp a y) at h)
-    where
-      go : (p q : Bool) → (p || (q || false)) ≡ true → (not p || (not q || false)) ≡ true → p ≡ not q
-      go p q g h = search rules
+  opposed (x ∷ y ∷ []) e g h = let k = rw (holds-opp a x, holds-opp a y) at h in search rules
   opposed (x ∷ y ∷ z ∷ c) e g h = let q : suc (suc (suc (length c))) ≡ 2 = eqb-true _ _ e in absurd (omega arith)
 
   pub pairs_opposed : (ds : List (List ℕ)) → satisfies_all a ds ≡ true → (c : List ℕ) → Memᴰ c (pairs ds) → Opposed c
@@ -109,12 +106,10 @@ module _ (a : ℕ → Bool) where
   module _ (zero_is : a 0 ≡ false) (m : List ℕ) (sound : Sound a m) where
     alone-holds : (v : ℕ) → holds a (alone m v) ≡ a v
     unfolding alone
-    alone-holds v = go (marked m (2 * v)) refl (marked m (2 * v + 1)) refl
-      where
-        go : (b : Bool) → marked m (2 * v) ≡ b → (c : Bool) → marked m (2 * v + 1) ≡ c → holds a (cond b 1 (cond c 0 (2 * v))) ≡ a v
-        go true e c f = holds_one a zero_is ∙ sym (sym (holds_pos a v) ∙ sound (2 * v) e)
-        go false e true f = holds_zero a zero_is ∙ sym (not-true (a v) (sym (holds-neg a v) ∙ sound (2 * v + 1) f))
-        go false e false f = holds_pos a v
+    alone-holds v =
+        cond_both (marked m (2 * v)) 1 _ (λ k. holds a k ≡ a v) (λ e. holds_one a zero_is ∙ sym (sym (holds_pos a v) ∙ sound (2 * v) e))
+        (λ e. cond_both (marked m (2 * v + 1)) 0 (2 * v) (λ k. holds a k ≡ a v)
+        (λ f. holds_zero a zero_is ∙ sym (not-true (a v) (sym (holds-neg a v) ∙ sound (2 * v + 1) f))) (λ f. holds_pos a v))
 
     begin : (n : ℕ) → Agrees (starting n m)
     begin n v = ⊎_elim (λ e. ap (holds a) e ∙ alone-holds v) (λ e. ap (holds a) e ∙ holds_pos a v) (starting_is n m v)

@@ -1,6 +1,6 @@
 -- One round, forward and backward: an assignment that satisfies its clauses agrees with what the variables stand for after
 -- it and satisfies what it leaves, and the other way round; a contradiction is satisfied by none.
-use Rattle.std.proofs.Common.{◌≡◌, ℕ, suc, ◌+◌, ◌*◌, ◌<◌, ◌≤◌, Bool, true, false, not, ◌&&◌, eqb, List, [], map, length, get_or, sym, ap, ◌∙◌, subst, ⊎_elim, arith, eqb-true, rules}
+use Rattle.std.proofs.Common.{◌≡◌, ℕ, suc, ◌+◌, ◌*◌, ◌<◌, ◌≤◌, Bool, true, false, not, ◌&&◌, eqb, List, [], map, length, get_or, sym, ap, ◌∙◌, subst, ⊎_elim, arith, rules, eqb-true}
 use mathlib.Core.List.Memᴰ
 use mathlib.Core.List.{Memᴰ}
 use Rattle.std.specs.List.{list_any, range_with_len}

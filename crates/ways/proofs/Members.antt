@@ -1,9 +1,9 @@
 -- Laws of membership: in rows of numbers, in rows of rows, in ranges, and at a place.
-use Rattle.std.proofs.Common.{◌≡◌, ℕ, zero, suc, ◌+◌, ◌<◌, ◌≤◌, true, eqb, ◌⊎◌, List, [], ◌∷◌, length, get_or, set, replicate, flat_map, refl, ap, subst, inl, inr, ⊎_elim, arith, get_or-set_other, get_or-set_same, eq-eqb, eqb-true, map}
+use Rattle.std.proofs.Common.{◌≡◌, ℕ, zero, suc, ◌+◌, ◌<◌, ◌≤◌, true, eqb, ◌⊎◌, List, [], ◌∷◌, map, length, get_or, set, replicate, flat_map, refl, ap, subst, inl, inr, ⊎_elim, arith, get_or-set_other, get_or-set_same, eq-eqb, eqb-true}
 use mathlib.Core.List.Memᴰ
 use mathlib.Core.List.{Memᴰ}
-use Rattle.std.specs.List.{range_with_len}
 use Rattle.std.specs.Cmp.Lexicographic.{bytes_decides}
+use Rattle.std.specs.List.{range_with_len}
 use Rattle.std.proofs.lemmas.Bool.{cases_eq, cases_lt}
 use Rattle.std.proofs.lemmas.List.{get_or-replicate, get_or_past, length-replicate, set_past, get_or-map, length-map}
 use Rattle.ways.specs.Ways.{has, same, among}
