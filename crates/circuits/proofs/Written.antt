@@ -23,7 +23,7 @@ pub record Speaks (g : Gate) : Type 0 where
   pub output_in : (d : List ℕ) → Memᴰ d g.pattern → (l : ℕ) × Memᴰ l d × (var l ≡ g.output)
   pub only : (d : List ℕ) → Memᴰ d g.pattern → (l : ℕ) → Memᴰ l d → (var l ≡ g.output) ⊎ ((x : ℕ) × Memᴰ x g.inputs × (var x ≡ var l))
 
--- What was there is there after an insertion, and so is what was inserted.
+-- What was inserted is there.
 pub insert-has : (x : ℕ) (ys : List ℕ) → Memᴰ x (insert x ys)
 unfolding insert
 insert-has x [] = Memᴰ.head refl
@@ -97,7 +97,7 @@ back_in (cons {x = x} {xs = xs} h r) f up o (Memᴰ.tail i) =
     rw (ne_eqb x o (λ (z : x ≡ o). omega arith), insert, ne_eqb (f o) (f x) (λ (z : f o ≡ f x). omega arith), le-ltb (f o) (f x) (omega arith))
     (ap (λ t. f x ∷ t) (back_in r f (λ y z j k. up y z (Memᴰ.tail j) (Memᴰ.tail k)) o i))
 
--- Small facts: the signs of inputs, a literal from its variable and sign, opposites of opposites.
+-- Small facts: the signs of inputs, a literal from its variable and sign.
 pub signs_low : (ls : List ℕ) → signs ls < 3
 unfolding signs
 signs_low ls = grind arith
