@@ -1,1 +1,3 @@
 -- Laws of the rounds' code.
+pub mod ForceSteps
+pub mod ForceRows

@@ -1,4 +1,5 @@
 // The rounds in code: forced literals, cleaning, pairs, substitution, and the loop over them.
 #![tactic(auto)]
 
+pub mod force;
 pub mod marks;
