@@ -5,9 +5,12 @@ use mathlib.Core.List.{List, [], ◌∷◌, ◌++◌, map}
 use native.Mathlib.Omega.{arith}
 use lib.IntN.{ℤ, pos}
 use lib.ListN.{length, get_or, take, drop}
+use Rattle.std.specs.Fn.{iterate}
 use Rattle.std.proofs.Common.{add-one, drop-cons}
 use Rattle.std.proofs.lemmas.List.{take_more, map-append, get_or-drop, length-drop}
+use Rattle.std.proofs.lemmas.List.Sums.{fold-append}
 use Rattle.std.proofs.Math.ListN.{drop_of_length-le}
+use Rattle.ways.proofs.Runs.{iterate_stays}
 use Rattle.tables.specs.Literal.{literal}
 use Rattle.tables.specs.Clause.{clauses_from, clauses}
 use Rattle.tables.proofs.Literals.{literal_zero}
@@ -59,3 +62,15 @@ passed_end s p row m h e = rw (rest_end s p row (pos 0) h e) refl
 
 pub passed_on : (s p : ℕ) (row : List ℤ) (m : List ℕ) → s ≤ p → p < length row → (get_or row p (pos 0) ≡ pos 0 → ⊥) → pass (rest s p row) m ≡ pass (rest s (p + 1) row) m
 passed_on s p row m g h e = rw (rest_on s p row (pos 0) g h e) refl
+
+-- A pass over clauses and more behind them.
+pub pass_parts : (cs ds : List (List ℕ)) (m : List ℕ) → pass (cs ++ ds) m ≡ pass ds (pass cs m)
+unfolding pass
+pass_parts cs ds m = fold-append force_in m cs ds
+
+-- Passes, of which k were to come: one is made; or one changed nothing, and none after it does.
+pub passes_turn : (cs : List (List ℕ)) (k i : ℕ) (m : List ℕ) → i < k → iterate (pass cs) (k - i) m ≡ iterate (pass cs) (k - (i + 1)) (pass cs m)
+passes_turn cs k i m h = let more : k - i ≡ suc (k - (i + 1)) = omega arith in rw more refl
+
+pub passes_end : (cs : List (List ℕ)) (k : ℕ) (m : List ℕ) → pass cs m ≡ m → iterate (pass cs) k m ≡ m
+passes_end cs k m e = iterate_stays (pass cs) k m e

@@ -101,3 +101,39 @@ pub fn pass_over(row: &[i32], marks: &mut [u8]) -> bool
     }
     grown
 }
+
+/// One pass over the pins, each a clause of one literal; whether any mark is new.
+#[tactic(auto, unfolding(rules::specs::Forced::pass))]
+pub fn pass_pins(pins: &[i32], marks: &mut [u8]) -> bool
+    ensures passed { marks.new ≡ pass (map (λ p. literal p ∷ []) pins.now) marks.old }
+    ensures still { OnFalse result (marks.new ≡ marks.old) }
+{
+    let mut grown = false;
+    for &pin in pins {
+        grown = force_clause(&[pin], marks) || grown;
+    }
+    grown
+}
+
+/// One pass over the row's clauses and the pins behind them; whether any mark is new.
+#[tactic(auto, using(crate::proofs::ForceRows::pass_parts), unfolding(rules::specs::Rounds::pinned))]
+fn pass_pinned(row: &[i32], pins: &[i32], marks: &mut [u8]) -> bool
+    ensures passed { marks.new ≡ pass (pinned row.now pins.now) marks.old }
+    ensures still { OnFalse result (marks.new ≡ marks.old) }
+{
+    let grown = pass_over(row, marks);
+    pass_pins(pins, marks) || grown
+}
+
+/// The forced literals: passes from no mark at all on, until one adds none.
+#[tactic(auto, using(crate::proofs::ForceRows::passes_end, crate::proofs::ForceRows::passes_turn))]
+pub fn force(row: &[i32], pins: &[i32], marks: &mut [u8])
+    ensures { marks.new ≡ iterate (pass (pinned row.now pins.now)) (length marks.old) (replicate (length marks.old) 0) }
+{
+    marks.fill(0);
+    for _pass in 0..marks.len() {
+        if !pass_pinned(row, pins, marks) {
+            return;
+        }
+    }
+}
