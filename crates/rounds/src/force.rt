@@ -86,7 +86,7 @@ pub fn force_clause(clause: &[i32], marks: &mut [u8]) -> bool
 }
 
 /// One pass over the row's clauses; whether any mark is new.
-#[tactic(auto, using(crate::proofs::ForceRows::passed_start, crate::proofs::ForceRows::passed_end, crate::proofs::ForceRows::passed_on, crate::proofs::ForceRows::passed_all))]
+#[tactic(auto, using(crate::proofs::ForcePasses::passed_start, crate::proofs::ForcePasses::passed_end, crate::proofs::ForcePasses::passed_on, crate::proofs::ForcePasses::passed_all))]
 pub fn pass_over(row: &[i32], marks: &mut [u8]) -> bool
     ensures passed { marks.new ≡ pass (clauses row.now) marks.old }
     ensures still { OnFalse result (marks.new ≡ marks.old) }
@@ -116,7 +116,7 @@ pub fn pass_pins(pins: &[i32], marks: &mut [u8]) -> bool
 }
 
 /// One pass over the row's clauses and the pins behind them; whether any mark is new.
-#[tactic(auto, using(crate::proofs::ForceRows::pass_parts), unfolding(rules::specs::Rounds::pinned))]
+#[tactic(auto, using(crate::proofs::ForcePasses::pass_parts), unfolding(rules::specs::Rounds::pinned))]
 fn pass_pinned(row: &[i32], pins: &[i32], marks: &mut [u8]) -> bool
     ensures passed { marks.new ≡ pass (pinned row.now pins.now) marks.old }
     ensures still { OnFalse result (marks.new ≡ marks.old) }
@@ -126,7 +126,7 @@ fn pass_pinned(row: &[i32], pins: &[i32], marks: &mut [u8]) -> bool
 }
 
 /// The forced literals: passes from no mark at all on, until one adds none.
-#[tactic(auto, using(crate::proofs::ForceRows::passes_end, crate::proofs::ForceRows::passes_turn))]
+#[tactic(auto, using(crate::proofs::ForcePasses::passes_end, crate::proofs::ForcePasses::passes_turn))]
 pub fn force(row: &[i32], pins: &[i32], marks: &mut [u8])
     ensures { marks.new ≡ iterate (pass (pinned row.now pins.now)) (length marks.old) (replicate (length marks.old) 0) }
 {
