@@ -1,4 +1,6 @@
 // The rounds in code: forced literals, cleaning, pairs, substitution, and the loop over them.
 #![tactic(auto)]
 
+pub mod contradiction;
+pub mod force;
 pub mod marks;
