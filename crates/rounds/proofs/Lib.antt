@@ -1,1 +1,3 @@
 -- Laws of the rounds' code.
+pub mod StandSteps
+pub mod PairSteps

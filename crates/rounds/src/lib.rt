@@ -2,3 +2,5 @@
 #![tactic(auto)]
 
 pub mod marks;
+pub mod pairs;
+pub mod stands;
