@@ -1,3 +1,4 @@
 -- Laws of the rounds' code.
 pub mod StandSteps
 pub mod PairSteps
+pub mod SubstituteSteps

@@ -10,21 +10,21 @@ use Rattle.rules.specs.Pairs.{stands, replace, alone, starting, give_way, meet, 
 use Rattle.rounds.specs.Pairs.{Coded}
 
 -- A map in place: the places before i are written.
-map_turns : (f : ℕ → ℕ) (s : List ℕ) (i : ℕ) → i < length s
-    → take i s ++ map f (drop i s) ≡ take (i + 1) (set s i (f (get_or s i 0))) ++ map f (drop (i + 1) (set s i (f (get_or s i 0))))
-map_turns f s i h =
+pub map_turns : {X : Type 0} (f : X → X) (d : X) (s : List X) (i : ℕ) → i < length s
+    → take i s ++ map f (drop i s) ≡ take (i + 1) (set s i (f (get_or s i d))) ++ map f (drop (i + 1) (set s i (f (get_or s i d))))
+map_turns f d s i h =
     let lt : i < i + 1 = omega arith in
-    rw (take_more_set s i (f (get_or s i 0)) h, drop-set-lt (i + 1) s i (f (get_or s i 0)) lt, drop_more s i 0 h, append_assoc) refl
+    rw (take_more_set s i (f (get_or s i d)) h, drop-set-lt (i + 1) s i (f (get_or s i d)) lt, drop_more s i d h, append_assoc) refl
 
 pub relabel_turns : (low high : ℕ) (s : List ℕ) (i : ℕ) → i < length s
     → take i s ++ map (give_way low high) (drop i s)
     ≡ take (i + 1) (set s i (give_way low high (get_or s i 0))) ++ map (give_way low high) (drop (i + 1) (set s i (give_way low high (get_or s i 0))))
-relabel_turns low high = map_turns (give_way low high)
+relabel_turns low high = map_turns (give_way low high) 0
 
 pub follow_turns : (r s : List ℕ) (i : ℕ) → i < length s
     → take i s ++ map (replace r) (drop i s)
     ≡ take (i + 1) (set s i (replace r (get_or s i 0))) ++ map (replace r) (drop (i + 1) (set s i (replace r (get_or s i 0))))
-follow_turns r = map_turns (replace r)
+follow_turns r = map_turns (replace r) 0
 
 -- The row at first: the places before i are written.
 pub start_begins : (m s : List ℕ) → 1 ≤ length s

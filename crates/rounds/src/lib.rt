@@ -4,3 +4,4 @@
 pub mod marks;
 pub mod pairs;
 pub mod stands;
+pub mod substitute;
