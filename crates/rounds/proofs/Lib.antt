@@ -3,3 +3,6 @@ pub mod ForceSteps
 pub mod ForceRows
 pub mod ForcePasses
 pub mod Empties
+pub mod StandSteps
+pub mod PairSteps
+pub mod SubstituteSteps

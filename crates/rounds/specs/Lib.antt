@@ -1,1 +1,3 @@
 -- What the rounds' code has of its own.
+pub mod Pairs
+pub mod Substitute

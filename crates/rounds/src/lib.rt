@@ -4,3 +4,6 @@
 pub mod contradiction;
 pub mod force;
 pub mod marks;
+pub mod pairs;
+pub mod stands;
+pub mod substitute;
