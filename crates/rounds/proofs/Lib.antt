@@ -6,3 +6,4 @@ pub mod Empties
 pub mod StandSteps
 pub mod PairSteps
 pub mod SubstituteSteps
+pub mod PinSteps
