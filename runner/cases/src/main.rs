@@ -2,6 +2,7 @@
 
 use cases::builder::Second;
 use cases::run::{file, seeds, test, Tally};
+use cases::time;
 use std::process::ExitCode;
 use std::{env, fs, io};
 
@@ -18,6 +19,10 @@ fn main() -> ExitCode {
         },
         ["files", folder] => match files(folder) {
             Ok(tally) => tally,
+            Err(error) => return broken(folder, &error),
+        },
+        ["time", folder] => match times(folder) {
+            Ok(()) => return ExitCode::SUCCESS,
             Err(error) => return broken(folder, &error),
         },
         _ => return usage(),
@@ -63,4 +68,18 @@ fn files(folder: &str) -> io::Result<Tally> {
         println!("{name:24} {line}");
     }
     Ok(tally)
+}
+
+/// The times on each file and on the worst yards.
+fn times(folder: &str) -> io::Result<()> {
+    println!("{}", time::heading());
+    for (name, text) in texts_of(folder)? {
+        if let Some(line) = time::file(&name, &text) {
+            println!("{line}");
+        }
+    }
+    for line in time::worst().iter().filter_map(time::yard) {
+        println!("{line}");
+    }
+    Ok(())
 }

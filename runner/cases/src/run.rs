@@ -1,17 +1,18 @@
 //! Runs of cases with a count of those that passed and failed; a failing case is cut down and shown.
 
-use crate::builder::Builder;
+use crate::builder::{Book, Builder};
 use crate::case::{Case, Start};
 use crate::checks::{against_words, reading, small_case, yard};
-use crate::compare::lawful;
+use crate::compare::{compare, lawful};
 use crate::cut::cut;
 use crate::demands::{round_trip, Built};
 use crate::evenings::{evenings, held};
+use crate::families::{fixed, of_seed};
 use crate::random::Random;
-use crate::small::small;
 use crate::texts;
 use crate::words::Words;
 use crate::yards;
+use std::collections::BTreeMap;
 use std::panic::{catch_unwind, AssertUnwindSafe};
 
 /// How many passed and failed.
@@ -60,6 +61,9 @@ impl Tally {
     }
 }
 
+/// How many seeds the fixed run takes.
+const SEEDS: u64 = 700;
+
 /// The fixed cases, at most a minute.
 pub fn test(builder: &dyn Builder) -> Tally {
     let mut tally = Tally::default();
@@ -79,10 +83,8 @@ pub fn test(builder: &dyn Builder) -> Tally {
     for yard_here in yards::yards(1_024) {
         tally.count(&yard_here.case.family, || yard(builder, &yard_here));
     }
-    for seed in 0..6 {
-        tally.count("planted 1,024", || yard(builder, &yards::planted(seed, 1_024, 4_096, 16_384)));
-    }
-    seeds(&mut tally, builder, 1, 1_600);
+    seeds(&mut tally, builder, 1, SEEDS);
+    println!("small tables: {}", coverage(builder, 1, SEEDS));
     tally
 }
 
@@ -138,31 +140,66 @@ fn same_reading(builder: &dyn Builder, words: &Words, case: &Case) -> Answer {
     Err(format!("{left:?} and {right:?} on {:?}", String::from_utf8_lossy(text)))
 }
 
-/// Seeded cases of every family.
+/// Seeded cases of every family: small ones against the words and by all assignments, large ones by what is known.
 pub fn seeds(tally: &mut Tally, builder: &dyn Builder, first: u64, count: u64) {
     let words = &Words::default();
     for seed in first..first + count {
-        let most = 4 + (seed % 7) as usize;
-        tally.case(&small(seed, most), |case| small_case(builder, words, case));
-        tally.case(&texts::damaged(seed), |case| small_case(builder, words, case));
-        tally.case(&texts::thrown(seed), |case| small_case(builder, words, case));
+        for case in of_seed(seed).iter().filter(|case| case.size() < MIDDLING) {
+            tally.case(case, |case| small_case(builder, words, case));
+        }
         if seed % 8 == 0 {
-            let grown = yards::planted(seed, 10, 40, 160);
-            tally.case(&grown.case, |case| small_case(builder, words, case));
-            tally.count(&format!("planted 10, seed {seed}"), || yard(builder, &grown));
-        }
-        if seed % 40 == 0 {
-            let grown = yards::planted(seed, 60, 200, 900);
-            tally.case(&grown.case, |case| against_words(builder, words, case));
-            tally.count(&format!("planted 60, seed {seed}"), || yard(builder, &grown));
-        }
-        if seed % 200 == 0 {
-            for yard_here in yards::yards(24 + (seed / 200 % 8) as usize * 2) {
-                tally.case(&yard_here.case, |case| against_words(builder, words, case));
-                tally.count(&yard_here.case.family, || yard(builder, &yard_here));
+            for grown in [yards::planted(seed, 10, 40, 160), yards::planted(seed, 60, 200, 900)] {
+                tally.count(&format!("planted, seed {seed}"), || yard(builder, &grown));
             }
         }
+        if seed % 64 == 0 {
+            for grown in yards::yards(24 + (seed / 64 % 16) as usize * 2) {
+                tally.count(&grown.case.family, || yard(builder, &grown));
+            }
+            tally.count(&format!("a full yard, seed {seed}"), || {
+                yard(builder, &yards::planted(seed, 1_024, 4_096, 16_384))
+            });
+        }
     }
+}
+
+/// Tables with more entries than this take the words too long.
+const MIDDLING: usize = 6_000;
+
+/// What the small cases of some seeds hold, counted from their listings.
+pub fn coverage(builder: &dyn Builder, first: u64, count: u64) -> String {
+    let mut counts: BTreeMap<String, usize> = BTreeMap::new();
+    let mut add = |name: &str, by: usize| *counts.entry(name.to_string()).or_default() += by;
+    for case in (first..first + count).flat_map(|seed| of_seed(seed).into_iter().take(4)) {
+        let Start::Table { n, table } = &case.start else {
+            continue;
+        };
+        add("tables", 1);
+        match Built::new(builder, *n, table, &Book::EMPTY).map(|built| built.shown) {
+            Ok(Some(shown)) => {
+                add("accepted", 1);
+                add("fixed", shown.fixed.len());
+                add("links", shown.links.len());
+                add("with 3 rounds or more", usize::from(shown.rounds > 2));
+                add("with 2 levels or more", usize::from(shown.gates.iter().any(|gate| gate.level > 1)));
+                shown.gates.iter().for_each(|gate| add(&gate.kind, 1));
+                shown.gates.iter().for_each(|gate| add(&format!("of {} inputs", gate.inputs.len()), 1));
+            }
+            Ok(None) => add("contradictions", 1),
+            Err(_) => add("refused", 1),
+        }
+    }
+    let counts: Vec<String> = counts.iter().map(|(name, count)| format!("{name} {count}")).collect();
+    counts.join(", ")
+}
+
+/// Compares two builders on all fixed cases and on those of some seeds.
+pub fn against(a: &dyn Builder, b: &dyn Builder, first: u64, count: u64) -> Tally {
+    let mut tally = Tally::default();
+    for case in fixed().into_iter().chain((first..first + count).flat_map(of_seed)) {
+        tally.case(&case, |case| compare(a, b, case).map_err(|difference| difference.to_string()));
+    }
+    tally
 }
 
 /// A clause text from a file: all that can be known of it.
@@ -183,8 +220,7 @@ pub fn file(tally: &mut Tally, builder: &dyn Builder, name: &str, text: &[u8]) -
     }
     tally.count(&format!("{name}, the demands"), || {
         round_trip(builder, n, &row)?;
-        let book = crate::builder::Book::EMPTY;
-        let built = Built::new(builder, n, &row, &book)?;
+        let built = Built::new(builder, n, &row, &Book::EMPTY)?;
         built.some(&mut Random::new(7), 8)?;
         built.written_out(&words.settled(n, &row, &[]).unwrap_or_default())?;
         if n <= 10 {

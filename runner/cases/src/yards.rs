@@ -15,7 +15,10 @@ pub struct Yard {
 }
 
 fn yard(name: &str, seed: u64, n: usize, clauses: &[Vec<i32>], line: String) -> Yard {
-    Yard { case: Case::of_table(name, seed, n as u32, table_of(clauses)), line: Some(line), known: None }
+    let mut case = Case::of_table(name, seed, n as u32, table_of(clauses));
+    let random = &mut Random::new(seed);
+    case.values = (0..n).map(|_| random.below(2) as u8).collect();
+    Yard { case, line: Some(line), known: None }
 }
 
 /// In which order clauses or variables come.
@@ -103,10 +106,7 @@ pub fn parity_chain(seed: u64, n: usize, order: Order) -> Yard {
         (1..=n as i32 - 2).map(|output| parity(&[output, output + 1, output + 2], random.chance(50))).collect();
     put(random, order, &mut groups);
     let clauses: Vec<Vec<i32>> = groups.into_iter().flatten().collect();
-    let mut chain =
-        yard(&format!("parity chain {n} {order:?}"), seed, n, &clauses, format!("B {n} 1 0 0 {} 2 0", n - 2));
-    chain.case.values = (0..n).map(|_| random.below(2) as u8).collect();
-    chain
+    yard(&format!("parity chain {n} {order:?}"), seed, n, &clauses, format!("B {n} 1 0 0 {} 2 0", n - 2))
 }
 
 /// And-forms of so many inputs each, outputs first; all signs at random.
@@ -143,8 +143,7 @@ pub fn exactly_one(seed: u64, n: usize, blocks: usize, width: usize) -> Yard {
 pub fn ring(seed: u64, length: usize, order: Order) -> Yard {
     let random = &mut Random::new(seed);
     let m = length as i32;
-    let mut gates: Vec<Vec<Vec<i32>>> =
-        (1..=m).map(|output| and_form(output, &[output % m + 1, m + output])).collect();
+    let mut gates: Vec<Vec<Vec<i32>>> = (1..=m).map(|output| and_form(output, &[output % m + 1, m + output])).collect();
     put(random, order, &mut gates);
     let clauses: Vec<Vec<i32>> = gates.into_iter().flatten().collect();
     let n = 2 * length;
@@ -268,6 +267,30 @@ pub fn planted(seed: u64, n: usize, most_clauses: usize, most_entries: usize) ->
     Yard { case, line: None, known: Some(known) }
 }
 
+/// Parity groups over any three variables: many gates, and many given up for rings.
+pub fn triples(seed: u64, n: usize, groups: usize) -> Yard {
+    let random = &mut Random::new(seed);
+    let mut clauses = Vec::new();
+    for _ in 0..groups {
+        let three = random.variables(n, 3);
+        clauses.extend(parity(&three, random.chance(50)));
+    }
+    let any = yard(&format!("triples {groups}"), seed, n, &clauses, String::new());
+    Yard { line: None, ..any }
+}
+
+/// And-forms whose outputs are inputs of each other all over: each is tried, many are given up for rings.
+pub fn tangle(seed: u64, n: usize, gates: usize) -> Yard {
+    let random = &mut Random::new(seed);
+    let mut clauses = Vec::new();
+    for _ in 0..gates {
+        let three: Vec<i32> = random.variables(n, 3).iter().map(|variable| random.sign(*variable)).collect();
+        clauses.extend(and_form(three[0], &three[1..]));
+    }
+    let any = yard(&format!("tangle {gates}"), seed, n, &clauses, String::new());
+    Yard { line: None, ..any }
+}
+
 /// All yards at one scale: n variables at most, and tables of no more than n * 4 clauses and n * 16 entries, which for
 /// n = 1,024 are the sizes of the rules.
 pub fn yards(n: usize) -> Vec<Yard> {
@@ -287,5 +310,8 @@ pub fn yards(n: usize) -> Vec<Yard> {
     yards.push(exactly_one(9, n, 2, width.min(n / 5 + 3)));
     yards.push(plain(10, n, 4 * n));
     yards.push(repeats(11, n, 4 * n));
+    yards.push(triples(12, n, n * 7 / 8));
+    yards.push(triples(13, n, n));
+    yards.push(tangle(14, n, n * 4 / 3));
     yards
 }

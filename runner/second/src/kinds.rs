@@ -15,8 +15,7 @@ pub enum Kind {
     Xnor,
 }
 
-pub const KINDS: [Kind; 8] =
-    [Kind::And, Kind::Nor, Kind::Cg, Kind::Or, Kind::Nand, Kind::Dg, Kind::Xor, Kind::Xnor];
+pub const KINDS: [Kind; 8] = [Kind::And, Kind::Nor, Kind::Cg, Kind::Or, Kind::Nand, Kind::Dg, Kind::Xor, Kind::Xnor];
 
 impl Kind {
     pub fn name(self) -> &'static str {

@@ -17,10 +17,13 @@ use std::collections::BTreeSet;
 /// A plan, or the round of the contradiction.
 type Plan = Result<(Settled, Circuit), usize>;
 
+/// A plan with the n, table and pins that it was made from.
+type Kept = (u32, Vec<i32>, Vec<i32>, Plan);
+
 /// The rules as words. It keeps the last plan, for a case asks for the same one many times.
 #[derive(Default)]
 pub struct Words {
-    last: RefCell<Option<(u32, Vec<i32>, Vec<i32>, Plan)>>,
+    last: RefCell<Option<Kept>>,
 }
 
 fn refused(number: u32, place: usize) -> Option<Numbers> {
@@ -152,8 +155,8 @@ impl Builder for Words {
 
     fn build(&self, n: u32, table: &[i32], work: &mut [i32], book: &Book, bytes: &mut [u8]) -> Numbers {
         work.fill(0);
-        let fault = lent_fault(n, table, work, book)
-            .or_else(|| self.contradiction(n, table, &book.pins[..book.length]));
+        let fault =
+            lent_fault(n, table, work, book).or_else(|| self.contradiction(n, table, &book.pins[..book.length]));
         if let Some(numbers) = fault {
             return numbers;
         }
@@ -170,8 +173,8 @@ impl Builder for Words {
 
     fn fill(&self, n: u32, table: &[i32], work: &mut [i32], book: &Book, values: &[u8], result: &mut [u8]) -> Numbers {
         work.fill(0);
-        let fault = lent_fault(n, table, work, book)
-            .or_else(|| self.contradiction(n, table, &book.pins[..book.length]));
+        let fault =
+            lent_fault(n, table, work, book).or_else(|| self.contradiction(n, table, &book.pins[..book.length]));
         if let Some(numbers) = fault {
             return numbers;
         }
