@@ -32,12 +32,12 @@ pub fn of_seed(seed: u64) -> Vec<Case> {
         texts::thrown(seed),
         yards::planted(seed, 10, 40, 160).case,
     ];
-    if seed % 8 == 0 {
+    if seed.is_multiple_of(8) {
         cases.push(night(seed));
         cases.push(yards::planted(seed, 60, 200, 900).case);
         cases.push(bare(seed));
     }
-    if seed % 64 == 0 {
+    if seed.is_multiple_of(64) {
         cases.extend(yards::yards(24 + (seed / 64 % 16) as usize * 2).into_iter().map(|yard| yard.case));
         cases.push(yards::planted(seed, 1_024, 4_096, 16_384).case);
     }

@@ -147,12 +147,12 @@ pub fn seeds(tally: &mut Tally, builder: &dyn Builder, first: u64, count: u64) {
         for case in of_seed(seed).iter().filter(|case| case.size() < MIDDLING) {
             tally.case(case, |case| small_case(builder, words, case));
         }
-        if seed % 8 == 0 {
+        if seed.is_multiple_of(8) {
             for grown in [yards::planted(seed, 10, 40, 160), yards::planted(seed, 60, 200, 900)] {
                 tally.count(&format!("planted, seed {seed}"), || yard(builder, &grown));
             }
         }
-        if seed % 64 == 0 {
+        if seed.is_multiple_of(64) {
             for grown in yards::yards(24 + (seed / 64 % 16) as usize * 2) {
                 tally.count(&grown.case.family, || yard(builder, &grown));
             }
