@@ -46,12 +46,12 @@ abbrev New : List ℕ → List ℕ → ℕ → Bool
 New m c l = forces m c l && not (marked m l)
 
 -- Where a literal is open, no other is forced.
-pub adds_open : (m c : List ℕ) (l : ℕ) → find (λ x. not (marked m (opp x))) c ≡ Some l → list_any (λ x. forces m c x && not (marked m x)) c ≡ (forces m c l && not (marked m l))
+pub adds_open : (m c : List ℕ) (l : ℕ) → Some l ≡ find (λ x. not (marked m (opp x))) c → list_any (λ x. forces m c x && not (marked m x)) c ≡ (forces m c l && not (marked m l))
 unfolding forces
 adds_open m c l e = agree (list_any (New m c) c) (New m c l) one (mem-list_any (New m c) c l here.0)
   where
     here : Memᴰ l c × (not (marked m (opp l)) ≡ true)
-    here = found (λ x. not (marked m (opp x))) c l e
+    here = found (λ x. not (marked m (opp x))) c l (sym e)
 
     one : list_any (New m c) c ≡ true → New m c l ≡ true
     one h =
@@ -63,12 +63,12 @@ adds_open m c l e = agree (list_any (New m c) c) (New m c l) one (mem-list_any (
         (or_cases (eqb l x) (marked m (opp l)) (list_all-mem _ c f l here.0))
 
 -- Where no literal is open, all are forced.
-pub adds_all : (m c : List ℕ) → find (λ x. not (marked m (opp x))) c ≡ None → list_any (λ x. forces m c x && not (marked m x)) c ≡ list_any (λ x. not (marked m x)) c
+pub adds_all : (m c : List ℕ) → None ≡ find (λ x. not (marked m (opp x))) c → list_any (λ x. forces m c x && not (marked m x)) c ≡ list_any (λ x. not (marked m x)) c
 unfolding forces
 adds_all m c e = list_any_alike (New m c) (λ x. not (marked m x)) c (λ x i. ap (λ b. b && not (marked m x)) (mem-list_all _ c (λ y j. or_right (eqb y x) (marked m (opp y)) (shut y j))))
   where
     shut : (y : ℕ) → Memᴰ y c → marked m (opp y) ≡ true
-    shut y j = go (marked m (opp y)) (not_found (λ x. not (marked m (opp x))) c e y j)
+    shut y j = go (marked m (opp y)) (not_found (λ x. not (marked m (opp x))) c (sym e) y j)
       where
         go : (b : Bool) → not b ≡ false → b ≡ true
         go true w = refl
