@@ -29,7 +29,7 @@ pins_forced n row pins inside p i =
     (literal p) (Memᴰ.head refl) (λ x j k. absurd (k (Memᴰ.eq_of_singleton j)))
   where
     single : void (literal p ∷ []) ≡ false
-    single = rw (ne_eqb (opp (literal p)) (literal p) (opp_differs (literal p))) refl
+    single = rw (ne_eqb (opp (literal p)) (literal p) (λ e. opp_differs (literal p) (sym e))) refl
 
 -- Cleaning what the pins stand behind is cleaning the row.
 pub clean_pinned : (n : ℕ) (row pins : List ℤ) → Inside n (pinned row pins)
