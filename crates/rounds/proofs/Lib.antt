@@ -1,1 +1,4 @@
 -- Laws of the rounds' code.
+pub mod Insert
+pub mod Parts
+pub mod Tidying

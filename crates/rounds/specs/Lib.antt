@@ -1,1 +1,2 @@
 -- What the rounds' code has of its own.
+pub mod Place
