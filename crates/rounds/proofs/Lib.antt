@@ -2,3 +2,5 @@
 pub mod Insert
 pub mod Parts
 pub mod Tidying
+pub mod Sameness
+pub mod Open

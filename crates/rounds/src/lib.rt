@@ -1,5 +1,6 @@
 // The rounds in code: forced literals, cleaning, pairs, substitution, and the loop over them.
 #![tactic(auto)]
 
+pub mod earlier;
 pub mod marks;
 pub mod tidy;
