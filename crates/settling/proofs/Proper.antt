@@ -59,11 +59,11 @@ insert_rising x (cons {x = y} {xs = ys} h r) = go (eqb x y) refl (ltb x y) refl 
         cons (λ z i. ⊎_elim (λ q. subst (λ t. y < t) (sym q) m) (h z) (insert_in x ys z i)) k
 
 -- what a tidied clause is
-record Tidy (c d : List ℕ) : Type 0 where
-  rises : Rising d
-  inside : (l : ℕ) → Memᴰ l d → Memᴰ l c
+pub record Tidy (c d : List ℕ) : Type 0 where
+  pub rises : Rising d
+  pub inside : (l : ℕ) → Memᴰ l d → Memᴰ l c
 
-tidy_is : (m c : List ℕ) → Tidy c (tidy m c)
+pub tidy_is : (m c : List ℕ) → Tidy c (tidy m c)
 unfolding tidy tidy_step
 tidy_is m c = fold_keeps (tidy_step m) (Tidy c) c (λ out x i t. go out x i t (marked m (opp x))) [] (record { rises = nil; inside = λ l i. absurd (Memᴰ.not-nil i) })
   where
