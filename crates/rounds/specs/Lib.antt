@@ -1,2 +1,4 @@
 -- What the rounds' code has of its own.
 pub mod Place
+pub mod Neighbours
+pub mod Ended

@@ -1,6 +1,7 @@
 // The rounds in code: forced literals, cleaning, pairs, substitution, and the loop over them.
 #![tactic(auto)]
 
+pub mod clean;
 pub mod earlier;
 pub mod marks;
 pub mod tidy;
