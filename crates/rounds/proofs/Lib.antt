@@ -7,3 +7,12 @@ pub mod StandSteps
 pub mod PairSteps
 pub mod SubstituteSteps
 pub mod PinSteps
+pub mod Insert
+pub mod Parts
+pub mod Tidying
+pub mod Sameness
+pub mod Open
+pub mod Endings
+pub mod Voids
+pub mod CleanSteps
+pub mod Cleaned

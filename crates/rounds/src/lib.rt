@@ -7,3 +7,7 @@ pub mod marks;
 pub mod pairs;
 pub mod stands;
 pub mod substitute;
+pub mod clean;
+pub mod earlier;
+pub mod marks;
+pub mod tidy;
