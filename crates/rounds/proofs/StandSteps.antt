@@ -1,11 +1,13 @@
 -- Laws of the row that says what each variable stands for.
-use Rattle.std.proofs.Common.{◌≡◌, refl, sym, subst, ℕ, suc, ◌+◌, ◌-◌, ◌<◌, ◌≤◌, List, [], ◌∷◌, ◌++◌, length, get_or, set, take, drop, map, arith, ℤ, pos, ◌*◌, Bool, true, false, cond, eqb, ltb}
+use Rattle.std.proofs.Common.{◌≡◌, refl, sym, subst, ℕ, zero, suc, ◌+◌, ◌-◌, ◌<◌, ◌≤◌, List, [], ◌∷◌, ◌++◌, length, get_or, set, take, drop, map, arith, ℤ, pos, ◌*◌, Bool, true, false, cond, eqb, ltb}
 use Rattle.std.proofs.Common.{append_assoc, append-nil}
-use Rattle.std.proofs.lemmas.List.{take_more_set, drop_more, drop-set-lt, take_all, length-map}
+use Rattle.std.proofs.lemmas.List.{take_more_set, drop_more, drop-set-lt, take_all, drop_all, length-map}
 use Rattle.std.specs.List.{All, range_with_len}
-use Rattle.std.proofs.lemmas.List.Elements.{All-map}
+use Rattle.std.proofs.lemmas.List.FromFn.{length-map-range_with_len}
+use Rattle.std.proofs.lemmas.List.Elements.{All-map, All-nil, All-cons, All-weaker}
 use Rattle.tables.specs.Literal.{literal, var, neg, opp}
 use Rattle.tables.proofs.Literals.{opp_is}
+use Rattle.rules.specs.Forced.{marked}
 use Rattle.rules.specs.Pairs.{stands, replace, alone, starting, give_way, meet, join}
 use Rattle.rounds.specs.Pairs.{Coded}
 
@@ -15,6 +17,9 @@ pub map_turns : {X : Type 0} (f : X → X) (d : X) (s : List X) (i : ℕ) → i 
 map_turns f d s i h =
     let lt : i < i + 1 = omega arith in
     rw (take_more_set s i (f (get_or s i d)) h, drop-set-lt (i + 1) s i (f (get_or s i d)) lt, drop_more s i d h, append_assoc) refl
+
+pub map_ends : {X : Type 0} (f : X → X) (s : List X) (i : ℕ) → length s ≤ i → take i s ++ map f (drop i s) ≡ s
+map_ends f s i h = rw (take_all i s h, drop_all i s h, append-nil) refl
 
 pub relabel_turns : (low high : ℕ) (s : List ℕ) (i : ℕ) → i < length s
     → take i s ++ map (give_way low high) (drop i s)
@@ -112,3 +117,31 @@ joined_coded s t c e h w q =
 
 pub replace_fits : (s : List ℕ) (l : ℕ) → length s ≤ 1025 → Coded s → l < 2 * length s → replace s l < 65536
 replace_fits s l n c h = let r = replace_coded s l c (omega arith) in omega arith
+
+-- The row at first, and each variable one round further.
+alone_coded : (m : List ℕ) (v n : ℕ) → 1 ≤ v → v < 1 + n → alone m v < 2 * suc n
+unfolding alone
+alone_coded m v n g h = go (marked m (2 * v)) (marked m (2 * v + 1))
+  where
+    go : (b c : Bool) → cond b 1 (cond c 0 (2 * v)) < 2 * suc n
+    go true c = omega arith
+    go false true = omega arith
+    go false false = omega arith
+
+range_within : (a k : ℕ) → All (λ v. (a ≤ v) × (v < a + k)) (range_with_len a k)
+range_within a zero = All-nil (λ v. (a ≤ v) × (v < a + 0))
+range_within a (suc k) =
+    All-cons (λ v. (a ≤ v) × (v < a + suc k)) a (range_with_len (a + 1) k) (omega arith, omega arith)
+    (All-weaker (λ v. (a + 1 ≤ v) × (v < a + 1 + k)) (λ v. (a ≤ v) × (v < a + suc k)) (λ v h. (omega arith, omega arith)) (range_with_len (a + 1) k) (range_within (a + 1) k))
+
+pub starting_coded : (n : ℕ) (m : List ℕ) → Coded (starting n m)
+unfolding starting
+starting_coded n m =
+    let e : length (map (alone m) (range_with_len 1 n)) ≡ n = length-map-range_with_len (alone m) 1 n in
+    subst (λ (x : ℕ). All (λ l. l < 2 * suc x) (starting n m)) (sym e)
+    (All-cons (λ l. l < 2 * suc n) 0 (map (alone m) (range_with_len 1 n)) (omega arith)
+    (All-map (λ l. l < 2 * suc n) (alone m) (range_with_len 1 n) (λ k d h. let (g, i) = range_within 1 n k d h in alone_coded m (get_or (range_with_len 1 n) k d) n g i)))
+
+pub followed_coded : (r s : List ℕ) → Coded r → All (λ l. l < 2 * length r) s → All (λ l. l < 2 * length r) (map (replace r) s)
+followed_coded r s c w =
+    All-map (λ l. l < 2 * length r) (replace r) s (λ k d h. let i = w k d h in replace_coded r (get_or s k d) c (omega arith))

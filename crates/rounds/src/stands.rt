@@ -54,7 +54,8 @@ fn alone(marks: &[u8], variable: usize) -> usize
 pub fn start(stands: &mut [u16], marks: &[u8])
     requires some { 1 ≤ length stands.old }
     requires few { length stands.old ≤ 1025 }
-    ensures { stands.new ≡ starting (length stands.old - 1) marks.now }
+    ensures is { stands.new ≡ starting (length stands.old - 1) marks.now }
+    ensures coded { Coded stands.new }
 {
     stands[0] = 0;
     for variable in 1..stands.len() {
@@ -127,7 +128,8 @@ pub fn follow(all: &mut [u16], stands: &[u16])
     requires few { length stands.now ≤ 1025 }
     requires coded { Coded stands.now }
     requires inside { All (λ l. l < 2 * length stands.now) all.old }
-    ensures { all.new ≡ map (replace stands.now) all.old }
+    ensures is { all.new ≡ map (replace stands.now) all.old }
+    ensures still_inside { All (λ l. l < 2 * length stands.now) all.new }
 {
     for place in all.iter_mut() {
         *place = replacement(stands, usize::from(*place)) as u16;

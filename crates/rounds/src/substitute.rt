@@ -38,7 +38,7 @@ fn substitute_each(row: &mut [i32], stands: &[u16])
 }
 
 /// Replaces each literal of the clauses in the front of a row. None of them may stand for a value.
-#[tactic(auto, using(crate::proofs::SubstituteSteps::front_substituted, crate::proofs::SubstituteSteps::zero_stays))]
+#[tactic(auto, using(crate::proofs::SubstituteSteps::front_substituted, crate::proofs::SubstituteSteps::zero_stays, crate::proofs::SubstituteSteps::front_inside))]
 pub fn substitute(row: &mut [i32], len: usize, stands: &[u16])
     requires within { len ≤ length row.old }
     requires few { length stands.now ≤ 1025 }
@@ -46,6 +46,7 @@ pub fn substitute(row: &mut [i32], len: usize, stands: &[u16])
     requires inside { All (λ e. var (literal e) < length stands.now) (take len row.old) }
     requires live { All (Live stands.now) (take len row.old) }
     ensures is { clauses (take len row.new) ≡ map (map (replace stands.now)) (clauses (take len row.old)) }
+    ensures still_inside { All (λ e. var (literal e) < length stands.now) (take len row.new) }
     ensures rest { drop len row.new ≡ drop len row.old }
     ensures zeros { (k : ℕ) → get_or row.old k (pos 0) ≡ pos 0 → get_or row.new k (pos 0) ≡ pos 0 }
 {
