@@ -4,7 +4,7 @@ use borrow.Author.Tests.{eqb-true, eq-eqb}
 use Rattle.std.proofs.lemmas.Bool.{or_parts}
 use Rattle.std.proofs.lemmas.List.{append_assoc, append-nil}
 use Rattle.ways.specs.Ways.{has}
-use Rattle.ways.proofs.Bools.{never_both}
+use Rattle.std.proofs.lemmas.Bool.{both_ways}
 use Rattle.tables.specs.Literal.{literal}
 use Rattle.tables.specs.Clause.{clauses_from, clauses}
 use Rattle.rounds.specs.Ended.{left_open, Ended}
@@ -48,7 +48,7 @@ module _ (b : List ℕ) where
   first_no_end x xs h = go (eqb (literal x) 0) refl
     where
       go : (e : Bool) → eqb (literal x) 0 ≡ e → e ≡ false
-      go true q = absurd (never_both (eq-eqb 0 (literal x) (sym (eqb-true (literal x) 0 q))) (or_parts _ _ h).0)
+      go true q = absurd (both_ways _ (or_parts _ _ h).0 (eq-eqb 0 (literal x) (sym (eqb-true (literal x) 0 q))))
       go false q = refl
 
 pub clause_from : (b : List ℕ) (xs : List ℤ) → has 0 (map literal xs) ≡ false → clauses_from b (xs ++ (pos 0 ∷ [])) ≡ (b ++ map literal xs) ∷ []

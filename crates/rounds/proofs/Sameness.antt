@@ -2,7 +2,7 @@
 use Rattle.std.proofs.Common.{◌≡◌, ◌∙◌, refl, sym, ap, Bool, List, [], ◌∷◌, map, ℤ, Decides}
 use Rattle.ways.specs.Ways.{same}
 use Rattle.ways.proofs.Bools.{agree}
-use Rattle.ways.proofs.Members.{same-eq, same_self}
+use Rattle.std.specs.Cmp.Lexicographic.{bytes_decides}
 use Rattle.tables.specs.Literal.{literal, entry}
 use Rattle.tables.proofs.Literals.{entry-literal}
 
@@ -12,5 +12,5 @@ entries_back (x ∷ xs) = rw (entry-literal x, entries_back xs)
 
 pub same_literals : (xs ys : List ℤ) (r : Bool) → Decides r (xs ≡ ys) → r ≡ same (map literal xs) (map literal ys)
 same_literals xs ys r h = agree r (same (map literal xs) (map literal ys))
-    (λ e. rw (h.0 e) (same_self (map literal ys)))
-    (λ e. h.1 (sym (entries_back xs) ∙ ap (map entry) (same-eq (map literal xs) (map literal ys) e) ∙ entries_back ys))
+    (λ e. rw (h.0 e) ((bytes_decides (map literal ys) (map literal ys)).1 refl))
+    (λ e. h.1 (sym (entries_back xs) ∙ ap (map entry) ((bytes_decides (map literal xs) (map literal ys)).0 e) ∙ entries_back ys))
