@@ -16,3 +16,4 @@ pub mod Endings
 pub mod Voids
 pub mod CleanSteps
 pub mod Cleaned
+pub mod RoundSteps

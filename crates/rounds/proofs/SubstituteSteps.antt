@@ -108,10 +108,10 @@ front_inside s row front len h c w v e =
     (All-map (λ e. var (literal e) < length s) (substituted s) (take len row) (λ k d i. one_inside s (get_or (take len row) k d) c (w k d i) (v k d i)))
 
 -- Where the last entry is a zero, what holds of the literals of the clauses holds of every entry but the zeros.
-abbrev Ended : List ℤ → Type 0
-Ended row = get_or row (length row - 1) (pos 0) ≡ pos 0
+abbrev pub LastEnds : List ℤ → Type 0
+LastEnds row = get_or row (length row - 1) (pos 0) ≡ pos 0
 
-ended_tail : (z : ℤ) (zs : List ℤ) → Ended (z ∷ zs) → Ended zs × ((literal z ≡ 0 → ⊥) → 0 < length zs)
+ended_tail : (z : ℤ) (zs : List ℤ) → LastEnds (z ∷ zs) → LastEnds zs × ((literal z ≡ 0 → ⊥) → 0 < length zs)
 ended_tail z [] e = (refl, λ n. absurd (n (ap literal e)))
 ended_tail z (y ∷ ys) e =
     let more : suc (suc (length ys)) - 1 ≡ suc (length ys) = omega arith in
@@ -119,7 +119,7 @@ ended_tail z (y ∷ ys) e =
     (rw less (rw more at e), λ n. omega arith)
 
 -- b: the literals of the open clause.
-abbrev Reached : (ℕ → Type 0) → List ℕ → List ℤ → Type 0
+abbrev pub Reached : (ℕ → Type 0) → List ℕ → List ℤ → Type 0
 Reached P b row = All (λ e. 2 ≤ literal e → P (literal e)) row × ((l : ℕ) → Memᴰ l b → 0 < length row → P l)
 
 one_entry : (P : ℕ → Type 0) (b : List ℕ) (z : ℤ) (zs : List ℤ) → ((literal z ≡ 0 → ⊥) → 0 < length zs)
@@ -140,7 +140,7 @@ one_entry P b z zs more rest h = go (eqb (literal z) 0) refl
         let r = rest (b ++ (literal z ∷ [])) (subst (EachLiteral P) (clause_grows b z zs e) h) in
         (All-cons (λ e. 2 ≤ literal e → P (literal e)) z zs (λ w. r.1 (literal z) (Memᴰ.append_right b (Memᴰ.head refl)) (more e)) r.0, λ l m i. r.1 l (Memᴰ.append_left (literal z ∷ []) m) (more e))
 
-every_entry : (P : ℕ → Type 0) (row : List ℤ) → Ended row → (b : List ℕ) → EachLiteral P (clauses_from b row) → Reached P b row
+pub every_entry : (P : ℕ → Type 0) (row : List ℤ) → LastEnds row → (b : List ℕ) → EachLiteral P (clauses_from b row) → Reached P b row
 every_entry P [] e b h = (All-nil (λ e. 2 ≤ literal e → P (literal e)), λ l m i. absurd (no i))
   where
     no : 0 < 0 → ⊥

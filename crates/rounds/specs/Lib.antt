@@ -4,3 +4,4 @@ pub mod Substitute
 pub mod Place
 pub mod Neighbours
 pub mod Ended
+pub mod Rounds

@@ -7,6 +7,8 @@ pub mod earlier;
 pub mod force;
 pub mod marks;
 pub mod pairs;
+pub mod round;
+pub mod settle;
 pub mod stands;
 pub mod substitute;
 pub mod tidy;

@@ -1,0 +1,54 @@
+// One round: forced literals, cleaning, pairs, substitution.
+ghost use Rattle.std.specs.Prelude.{◌≡◌, ◌+◌, ◌*◌, ◌≤◌, length, take};
+ghost use Rattle.rules.specs.Rounds.{round, pinned};
+ghost use Rattle.settling.proofs.Round.{Good};
+ghost use Rattle.rounds.specs.Ended.{Ended};
+ghost use Rattle.rounds.specs.Rounds.{Turns};
+
+use crate::clean::clean;
+use crate::contradiction::contradicts;
+use crate::pairs::{Pairs, join_pairs};
+use crate::stands::{follow, start};
+use crate::substitute::substitute;
+
+/// How a round ends.
+#[derive(Clone, Copy, Debug, PartialEq, Eq)]
+pub enum Turn {
+    /// In a contradiction.
+    Stuck,
+    /// It was the last: so many entries are the settled table.
+    Over(usize),
+    /// The next starts on so many entries.
+    On(usize),
+}
+
+/// Runs a round over the first entries of the row and the pins behind them. `all` says what each variable stands for so far,
+/// and then after the round; `marks` and `stands` are room to work in.
+pub fn round(n: usize, row: &mut [i32], entries: usize, pins: &[i32], marks: &mut [u8], all: &mut [u16], stands: &mut [u16]) -> Turn
+    requires few { n ≤ 1024 }
+    requires within { entries ≤ length row.old }
+    requires short { entries ≤ 16384 }
+    requires ended { Ended (take entries row.old) }
+    requires marks { length marks.old ≡ 2 * n + 2 }
+    requires stands { length stands.old ≡ n + 1 }
+    requires good { Good n all.old (pinned (take entries row.old) pins.now) }
+    ensures is { Turns (round n all.old (pinned (take entries row.old) pins.now)) result all.new row.new }
+{
+    if contradicts(n, &row[..entries], pins, marks) {
+        return Turn::Stuck;
+    }
+    let kept = clean(row, entries, marks);
+    start(stands, marks);
+    match join_pairs(&row[..kept], stands) {
+        Pairs::Torn => Turn::Stuck,
+        Pairs::NoPair => {
+            follow(all, stands);
+            Turn::Over(kept)
+        }
+        Pairs::Joined => {
+            follow(all, stands);
+            substitute(row, kept, stands);
+            Turn::On(kept)
+        }
+    }
+}
