@@ -11,26 +11,14 @@ use Rattle.tables.proofs.Literals.{var_one, literal_one}
 use Rattle.tables.proofs.Checked.{Inside, accepted_inside}
 use Rattle.rules.specs.Rounds.{impossible, settled, outcome, pinned}
 use Rattle.rules.specs.Pins.{out_of_range}
+use Rattle.settling.proofs.Inside.{pinned_inside}
 use Rattle.settling.proofs.Models.{Models, Means, outcome_means}
 use Rattle.settling.proofs.Bound.{Settled, outcome_ends}
 use Rattle.demands.specs.Evening.{Lent}
 
-pin_inside : (n : ℕ) (x : ℤ) → out_of_range n x ≡ false → (1 ≤ var (literal x)) × (var (literal x) ≤ n)
-unfolding out_of_range
-pin_inside n x e =
-    let (p, q) = or_parts (eqb (literal x) 0) (ltb n (var (literal x))) e in
-    (var_one (literal x) (eqb-false (literal x) 0 p) (literal_one x), ltb-false n (var (literal x)) q)
-
 -- The table with its pins speaks of the variables 1 to n.
 pub lent_inside : (n : ℕ) (t pins : List ℤ) → Lent n t pins → Inside n (pinned t pins)
-unfolding pinned
-lent_inside n t pins h c i l k =
-    ⊎_elim
-    (λ j. accepted_inside n t h.good c j l k)
-    (λ j. let (x, o, q) = Memᴰ.of_map (λ p. literal p ∷ []) pins j in
-    subst (λ y. (1 ≤ var y) × (var y ≤ n)) (sym (Memᴰ.eq_of_singleton (subst (Memᴰ l) (sym q) k)))
-    (pin_inside n x (not-true (out_of_range n x) (list_all-mem (λ x. not (out_of_range n x)) pins h.in_range x o))))
-    (Memᴰ.append_cases (clauses t) i)
+lent_inside n t pins h = pinned_inside n t pins h.good h.in_range
 
 module _ (n : ℕ) (t pins : List ℤ) (h : Lent n t pins) where
   -- A contradiction: its round, and that no assignment satisfies.

@@ -17,3 +17,5 @@ pub mod Voids
 pub mod CleanSteps
 pub mod Cleaned
 pub mod RoundSteps
+pub mod Whole
+pub mod SettleSteps

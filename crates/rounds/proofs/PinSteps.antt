@@ -1,5 +1,5 @@
 -- Pins behind a row: each is forced, so cleaning drops the clauses that they are.
-use Rattle.std.proofs.Common.{◌≡◌, ℕ, true, false, List, [], ◌∷◌, ◌++◌, map, fold, ℤ, refl, sym, ◌∙◌, ne_eqb}
+use Rattle.std.proofs.Common.{◌≡◌, ℕ, true, false, List, [], ◌∷◌, map, fold, ℤ, refl, sym, ◌∙◌, ne_eqb}
 use mathlib.Core.List.Memᴰ
 use mathlib.Core.List.{Memᴰ}
 use Rattle.std.proofs.Math.Bool.{or-true}

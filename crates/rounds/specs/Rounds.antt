@@ -1,5 +1,5 @@
 -- What the code of a round, and of all rounds, answers: the definition's answer, and where it stands in the lent memory.
-use Rattle.std.specs.Prelude.{ℕ, ◌≡◌, List, ℤ, take, Result, Ok, Err, IfOk}
+use Rattle.std.specs.Prelude.{ℕ, ◌≡◌, List, ℤ, take, Result, Ok, Err}
 use Rattle.tables.specs.Clause.{clauses}
 use Rattle.tables.specs.declared.numbers.Refusal.{Refusal}
 use Rattle.tables.specs.declared.numbers.Refusal.TheVariants.{Contradiction}
@@ -29,6 +29,12 @@ abbrev pub Turns : Round → Turn → List ℕ → List ℤ → Type 0
 Turns stuck turn all row = turn ≡ Stuck
 Turns (ended st cs) turn all row = IsOver turn st cs all row
 Turns (goes_on st cs) turn all row = IsOn turn st cs all row
+
+-- How many entries a turn leaves.
+abbrev pub kept_of : Turn → ℕ
+kept_of Stuck = 0
+kept_of (Over entries) = entries
+kept_of (On entries) = entries
 
 -- The rounds' outcome.
 abbrev pub IsSettled : Result Settled Refusal → ℕ → List ℕ → List (List ℕ) → List ℕ → List ℤ → Type 0

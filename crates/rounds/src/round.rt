@@ -3,7 +3,7 @@ ghost use Rattle.std.specs.Prelude.{◌≡◌, ◌+◌, ◌*◌, ◌≤◌, leng
 ghost use Rattle.rules.specs.Rounds.{round, pinned};
 ghost use Rattle.settling.proofs.Round.{Good};
 ghost use Rattle.rounds.specs.Ended.{Ended};
-ghost use Rattle.rounds.specs.Rounds.{Turns};
+ghost use Rattle.rounds.specs.Rounds.{Turns, kept_of};
 
 use crate::clean::clean;
 use crate::contradiction::contradicts;
@@ -24,7 +24,15 @@ pub enum Turn {
 
 /// Runs a round over the first entries of the row and the pins behind them. `all` says what each variable stands for so far,
 /// and then after the round; `marks` and `stands` are room to work in.
-pub fn round(n: usize, row: &mut [i32], entries: usize, pins: &[i32], marks: &mut [u8], all: &mut [u16], stands: &mut [u16]) -> Turn
+pub fn round(
+    n: usize,
+    row: &mut [i32],
+    entries: usize,
+    pins: &[i32],
+    marks: &mut [u8],
+    all: &mut [u16],
+    stands: &mut [u16],
+) -> Turn
     requires few { n ≤ 1024 }
     requires within { entries ≤ length row.old }
     requires short { entries ≤ 16384 }
@@ -33,6 +41,7 @@ pub fn round(n: usize, row: &mut [i32], entries: usize, pins: &[i32], marks: &mu
     requires stands { length stands.old ≡ n + 1 }
     requires good { Good n all.old (pinned (take entries row.old) pins.now) }
     ensures is { Turns (round n all.old (pinned (take entries row.old) pins.now)) result all.new row.new }
+    ensures within { kept_of result ≤ entries }
 {
     if contradicts(n, &row[..entries], pins, marks) {
         return Turn::Stuck;

@@ -1,9 +1,12 @@
 // The rounds over a lent table with the pins behind it, until no pair is found.
-ghost use Rattle.std.specs.Prelude.{◌≡◌, ◌+◌, ◌≤◌, true, not, Ok, length};
+ghost use Rattle.std.specs.Prelude.{◌≡◌, ◌+◌, ◌*◌, ◌≤◌, [], true, not, Ok, length, take};
 ghost use Rattle.std.specs.List.{list_all};
 ghost use Rattle.tables.specs.Check.{checked};
-ghost use Rattle.rules.specs.Rounds.{outcome, pinned};
+ghost use Rattle.rules.specs.Pairs.{starting};
+ghost use Rattle.rules.specs.Rounds.{rounds, outcome, pinned};
 ghost use Rattle.rules.specs.Pins.{out_of_range};
+ghost use Rattle.settling.proofs.Round.{Good};
+ghost use Rattle.rounds.specs.Ended.{Ended};
 ghost use Rattle.rounds.specs.Rounds.{Settles};
 
 use crate::round::{Turn, round};
@@ -19,21 +22,40 @@ pub struct Settled {
     pub entries: usize,
 }
 
-/// Settles a table with pins. The row's front is then the settled table, and `all` says what each variable stands for.
-pub fn settle(n: usize, table: &[i32], pins: &[i32], row: &mut [i32], all: &mut [u16]) -> Result<Settled, Refusal>
-    requires table { checked n table.now ≡ Ok tt }
-    requires pins { list_all (λ x. not (out_of_range n x)) pins.now ≡ true }
-    requires room { 16384 ≤ length row.old }
+/// Lays a table into the front of a row, and lets each variable stand for itself.
+#[tactic(auto, using(crate::proofs::SettleSteps::starting_whole))]
+fn begin(n: usize, table: &[i32], row: &mut [i32], all: &mut [u16])
+    requires few { n ≤ 1024 }
+    requires room { length table.now ≤ length row.old }
     requires all { length all.old ≡ n + 1 }
-    ensures is { Settles (outcome n (pinned table.now pins.now)) result all.new row.new }
+    ensures row { take (length table.now) row.new ≡ table.now }
+    ensures all { all.new ≡ starting n [] }
 {
-    let mut marks = [0u8; 2050];
-    let marks = &mut marks[..2 * n + 2];
-    let mut stands = [0u16; 1025];
-    let stands = &mut stands[..n + 1];
     start(all, &[]);
-    row[..table.len()].copy_from_slice(table);
-    let mut entries = table.len();
+    let (front, _) = row.split_at_mut(table.len());
+    front.copy_from_slice(table);
+}
+
+/// Runs the rounds over the first entries of the row and the pins behind them.
+fn run(
+    n: usize,
+    row: &mut [i32],
+    entries: usize,
+    pins: &[i32],
+    marks: &mut [u8],
+    all: &mut [u16],
+    stands: &mut [u16],
+) -> Result<Settled, Refusal>
+    requires few { n ≤ 1024 }
+    requires within { entries ≤ length row.old }
+    requires short { entries ≤ 16384 }
+    requires ended { Ended (take entries row.old) }
+    requires marks { length marks.old ≡ 2 * n + 2 }
+    requires stands { length stands.old ≡ n + 1 }
+    requires good { Good n all.old (pinned (take entries row.old) pins.now) }
+    ensures { Settles (rounds n (n + 1) 1 all.old (pinned (take entries row.old) pins.now)) result all.new row.new }
+{
+    let mut entries = entries;
     let mut pins = pins;
     for number in 1..n + 2 {
         match round(n, row, entries, pins, marks, all, stands) {
@@ -54,4 +76,27 @@ pub fn settle(n: usize, table: &[i32], pins: &[i32], row: &mut [i32], all: &mut 
         rounds: n + 2,
         entries,
     })
+}
+
+/// Settles a table with pins. The row's front is then the settled table, and `all` says what each variable stands for.
+#[tactic(auto, using(crate::proofs::SettleSteps::few_variables, crate::proofs::SettleSteps::few_entries, crate::proofs::SettleSteps::good_whole, crate::proofs::Whole::accepted_ended))]
+pub fn settle(
+    n: usize,
+    table: &[i32],
+    pins: &[i32],
+    row: &mut [i32],
+    all: &mut [u16],
+) -> Result<Settled, Refusal>
+    requires table { checked n table.now ≡ Ok tt }
+    requires pins { list_all (λ x. not (out_of_range n x)) pins.now ≡ true }
+    requires room { 16384 ≤ length row.old }
+    requires all { length all.old ≡ n + 1 }
+    ensures { Settles (outcome n (pinned table.now pins.now)) result all.new row.new }
+{
+    begin(n, table, row, all);
+    let mut marks = [0u8; 2050];
+    let mut stands = [0u16; 1025];
+    let (marks, _) = marks.split_at_mut(2 * n + 2);
+    let (stands, _) = stands.split_at_mut(n + 1);
+    run(n, row, table.len(), pins, marks, all, stands)
 }

@@ -160,12 +160,12 @@ pub record Settled (n : ℕ) (t : List ℕ) (es : List (List ℕ)) : Type 0 wher
   pub no_pair : pairs es ≡ []
 
 module _ (n : ℕ) where
-  abbrev Leaves : List ℕ → Round → Type 0
+  abbrev pub Leaves : List ℕ → Round → Type 0
   Leaves st stuck = Unit {0}
   Leaves st (ended t es) = Settled n t es
   Leaves st (goes_on t es) = Good n t es × (roots n t < roots n st)
 
-  round_leaves : (st : List ℕ) (cs : List (List ℕ)) → Good n st cs → Leaves st (round n st cs)
+  pub round_leaves : (st : List ℕ) (cs : List (List ℕ)) → Good n st cs → Leaves st (round n st cs)
   round_leaves st cs good =
       round_cases n st cs (Leaves st) (λ p. tt) (λ f e. record { good = last_good n st cs good e; proper = clean_proper (forced n cs) cs; no_pair = e }) (λ r. tt)
       (λ f z. (next_good n st cs good, less (pairs (ds n st cs)) refl z))

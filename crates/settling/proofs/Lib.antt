@@ -1,4 +1,5 @@
 -- What settling keeps, step by step of a round, and what the rounds leave.
+pub mod Inside
 pub mod Forced
 pub mod Least
 pub mod Clean

@@ -1,21 +1,19 @@
 -- A round: what its steps ask, and what they come to.
-use Rattle.std.proofs.Common.{◌≡◌, ◌∙◌, refl, sym, ap, subst, ℕ, ◌+◌, ◌*◌, ◌<◌, List, map, length, take, get_or, pos, arith}
+use Rattle.std.proofs.Common.{◌∙◌, refl, sym, ap, subst, map, length, take, arith}
 use Rattle.std.specs.List.{All}
 use Rattle.tables.specs.Clause.{clauses}
 use Rattle.rules.specs.Pairs.{pairs, replace}
-use Rattle.rules.specs.Rounds.{round, pinned}
-use Rattle.settling.proofs.Round.{ds, s, st'}
+use Rattle.rules.specs.Rounds.{pinned}
+use Rattle.settling.proofs.Round.{s}
 use Rattle.rounds.specs.Substitute.{Live}
 use Rattle.rounds.specs.Pairs.{found}
-use Rattle.rounds.specs.Rounds.{Turns}
-use Rattle.rounds.specs.declared.pairs.Pairs.TheVariants.{NoPair, Torn, Joined}
 use Rattle.rounds.proofs.RoundSteps.{all_inside, row_inside, row_live, round_ends, round_stuck, ends_by, kept_are, leaders_are, front_ended}
 use Rattle.rounds.proofs.round.round.Goals as goal
 
-pub returns-then-contradicts : goal.returns-then-contradicts
-returns-then-contradicts c =
+pub returns-then-contradicts-clause-is : goal.returns-then-contradicts-clause-is
+returns-then-contradicts-clause-is c =
     let cs = pinned (take c.args.entries c.args.row.now) c.args.pins.now in
-    record { is = rw (round_stuck c.args.n c.args.all.now cs (sym c.contradicts.ensures.is ∙ c.if-contradicts.true)) refl }
+    rw (round_stuck c.args.n c.args.all.now cs (sym c.contradicts.ensures.is ∙ c.if-contradicts.true)) refl
 
 pub join_pairs-requires-clause-inside : goal.join_pairs-requires-clause-inside
 join_pairs-requires-clause-inside c =
@@ -52,51 +50,51 @@ substitute-requires-clause-live c =
     let kept = take c.clean-kept.result c.clean-kept.new.row in
     let are = kept_are c.args.n c.args.all.now row c.args.pins.now c.requires.good c.contradicts.new.marks c.contradicts.ensures.forced (clauses kept) c.clean-kept.ensures.cleaned in
     let lead =
-        leaders_are c.args.n c.args.all.now row c.args.pins.now c.requires.good c.contradicts.new.marks c.contradicts.ensures.forced (clauses kept) c.clean-kept.ensures.cleaned
-        c.start.new.stands c.join_pairs.new.stands (length c.args.stands.now) c.requires.stands c.start.ensures.is c.join_pairs.ensures.leaders in
+    leaders_are c.args.n c.args.all.now row c.args.pins.now c.requires.good c.contradicts.new.marks c.contradicts.ensures.forced (clauses kept) c.clean-kept.ensures.cleaned
+    c.start.new.stands c.join_pairs.new.stands (length c.args.stands.now) c.requires.stands c.start.ensures.is c.join_pairs.ensures.leaders in
     subst (λ t. All (Live t) kept) (sym lead) (row_live c.args.n c.args.all.now cs c.requires.good kept are c.clean-kept.ensures.ended)
 
-pub returns-in-Torn : goal.returns-in-Torn
-returns-in-Torn c =
+pub returns-in-Torn-clause-is : goal.returns-in-Torn-clause-is
+returns-in-Torn-clause-is c =
     let row = take c.args.entries c.args.row.now in
     let cs = pinned row c.args.pins.now in
     let kept = take c.clean-kept.result c.clean-kept.new.row in
     let are = kept_are c.args.n c.args.all.now row c.args.pins.now c.requires.good c.contradicts.new.marks c.contradicts.ensures.forced (clauses kept) c.clean-kept.ensures.cleaned in
     let lead =
-        leaders_are c.args.n c.args.all.now row c.args.pins.now c.requires.good c.contradicts.new.marks c.contradicts.ensures.forced (clauses kept) c.clean-kept.ensures.cleaned
-        c.start.new.stands c.join_pairs.new.stands (length c.args.stands.now) c.requires.stands c.start.ensures.is c.join_pairs.ensures.leaders in
+    leaders_are c.args.n c.args.all.now row c.args.pins.now c.requires.good c.contradicts.new.marks c.contradicts.ensures.forced (clauses kept) c.clean-kept.ensures.cleaned
+    c.start.new.stands c.join_pairs.new.stands (length c.args.stands.now) c.requires.stands c.start.ensures.is c.join_pairs.ensures.leaders in
     let calm = sym c.contradicts.ensures.is ∙ c.if-contradicts.false in
     let seen = sym c.in-Torn.is ∙ c.join_pairs.ensures.found ∙ ap (λ t. found t (pairs (clauses kept))) lead ∙ ap (λ o. found (s c.args.n c.args.all.now cs) (pairs o)) are in
     let ends = round_ends c.args.n c.args.all.now cs calm ∙ ap (ends_by c.args.n c.args.all.now cs) (sym seen) in
-    record { is = rw ends refl }
+    rw ends refl
 
-pub returns-in-NoPair : goal.returns-in-NoPair
-returns-in-NoPair c =
+pub returns-in-NoPair-clause-is : goal.returns-in-NoPair-clause-is
+returns-in-NoPair-clause-is c =
     let row = take c.args.entries c.args.row.now in
     let cs = pinned row c.args.pins.now in
     let kept = take c.clean-kept.result c.clean-kept.new.row in
     let are = kept_are c.args.n c.args.all.now row c.args.pins.now c.requires.good c.contradicts.new.marks c.contradicts.ensures.forced (clauses kept) c.clean-kept.ensures.cleaned in
     let lead =
-        leaders_are c.args.n c.args.all.now row c.args.pins.now c.requires.good c.contradicts.new.marks c.contradicts.ensures.forced (clauses kept) c.clean-kept.ensures.cleaned
-        c.start.new.stands c.join_pairs.new.stands (length c.args.stands.now) c.requires.stands c.start.ensures.is c.join_pairs.ensures.leaders in
+    leaders_are c.args.n c.args.all.now row c.args.pins.now c.requires.good c.contradicts.new.marks c.contradicts.ensures.forced (clauses kept) c.clean-kept.ensures.cleaned
+    c.start.new.stands c.join_pairs.new.stands (length c.args.stands.now) c.requires.stands c.start.ensures.is c.join_pairs.ensures.leaders in
     let calm = sym c.contradicts.ensures.is ∙ c.if-contradicts.false in
     let seen = sym c.in-NoPair.is ∙ c.join_pairs.ensures.found ∙ ap (λ t. found t (pairs (clauses kept))) lead ∙ ap (λ o. found (s c.args.n c.args.all.now cs) (pairs o)) are in
     let ends = round_ends c.args.n c.args.all.now cs calm ∙ ap (ends_by c.args.n c.args.all.now cs) (sym seen) in
     let all = c.follow.ensures.is ∙ ap (λ t. map (replace t) c.args.all.now) lead in
-    record { is = rw ends (all, record { are = are; ended = c.clean-kept.ensures.ended }) }
+    rw ends (all, record { are = are; ended = c.clean-kept.ensures.ended })
 
-pub returns-in-Joined : goal.returns-in-Joined
-returns-in-Joined c =
+pub returns-in-Joined-clause-is : goal.returns-in-Joined-clause-is
+returns-in-Joined-clause-is c =
     let row = take c.args.entries c.args.row.now in
     let cs = pinned row c.args.pins.now in
     let kept = take c.clean-kept.result c.clean-kept.new.row in
     let are = kept_are c.args.n c.args.all.now row c.args.pins.now c.requires.good c.contradicts.new.marks c.contradicts.ensures.forced (clauses kept) c.clean-kept.ensures.cleaned in
     let lead =
-        leaders_are c.args.n c.args.all.now row c.args.pins.now c.requires.good c.contradicts.new.marks c.contradicts.ensures.forced (clauses kept) c.clean-kept.ensures.cleaned
-        c.start.new.stands c.join_pairs.new.stands (length c.args.stands.now) c.requires.stands c.start.ensures.is c.join_pairs.ensures.leaders in
+    leaders_are c.args.n c.args.all.now row c.args.pins.now c.requires.good c.contradicts.new.marks c.contradicts.ensures.forced (clauses kept) c.clean-kept.ensures.cleaned
+    c.start.new.stands c.join_pairs.new.stands (length c.args.stands.now) c.requires.stands c.start.ensures.is c.join_pairs.ensures.leaders in
     let calm = sym c.contradicts.ensures.is ∙ c.if-contradicts.false in
     let seen = sym c.in-Joined.is ∙ c.join_pairs.ensures.found ∙ ap (λ t. found t (pairs (clauses kept))) lead ∙ ap (λ o. found (s c.args.n c.args.all.now cs) (pairs o)) are in
     let ends = round_ends c.args.n c.args.all.now cs calm ∙ ap (ends_by c.args.n c.args.all.now cs) (sym seen) in
     let all = c.follow-in-Joined.ensures.is ∙ ap (λ t. map (replace t) c.args.all.now) lead in
     let next = c.substitute.ensures.is ∙ ap (λ t. map (map (replace t)) (clauses kept)) lead ∙ ap (map (map (replace (s c.args.n c.args.all.now cs)))) are in
-    record { is = rw ends (all, record { are = next; ended = front_ended c.clean-kept.new.row c.substitute.new.row c.clean-kept.result (omega (arith, c.clean-kept.ensures.within, c.clean-kept.auto.row, c.requires.within)) c.substitute.auto.row c.clean-kept.ensures.ended c.substitute.ensures.zeros }) }
+    rw ends (all, record { are = next; ended = front_ended c.clean-kept.new.row c.substitute.new.row c.clean-kept.result (omega (arith, c.clean-kept.ensures.within, c.clean-kept.auto.row, c.requires.within)) c.substitute.auto.row c.clean-kept.ensures.ended c.substitute.ensures.zeros })
