@@ -2,3 +2,4 @@
 pub mod StandSteps
 pub mod PairSteps
 pub mod SubstituteSteps
+pub mod ChainSteps

@@ -1,3 +1,4 @@
 -- What the rounds' code has of its own.
 pub mod Pairs
 pub mod Substitute
+pub mod PairChains

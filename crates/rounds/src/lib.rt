@@ -2,6 +2,7 @@
 #![tactic(auto)]
 
 pub mod marks;
+pub mod pair_chains;
 pub mod pairs;
 pub mod stands;
 pub mod substitute;
