@@ -26,7 +26,7 @@ fn link(head: &mut [u16], next: &mut [u16], first: usize, start: usize)
 }
 
 /// Chains the clauses of two literals, where no chain has a clause yet.
-#[tactic(auto, using(crate::proofs::ChainSteps::chain_begins, crate::proofs::ChainSteps::chain_grows, crate::proofs::ChainSteps::chain_links, crate::proofs::ChainSteps::chain_passes, crate::proofs::ChainSteps::chain_ends))]
+#[tactic(auto, using(crate::proofs::ChainSteps::chain_begins, crate::proofs::ChainSteps::chain_ends))]
 pub fn index(row: &[i32], head: &mut [u16], next: &mut [u16])
     requires inside { All (λ e. literal e < length head.old) row.now }
     requires none { head.old ≡ replicate (length head.old) 0 }
@@ -46,7 +46,6 @@ pub fn index(row: &[i32], head: &mut [u16], next: &mut [u16])
 }
 
 /// Whether the row has the clause of two literals.
-#[tactic(auto, using(crate::proofs::ChainSteps::walk_begins, crate::proofs::ChainSteps::walk_inside, crate::proofs::ChainSteps::walk_falls, crate::proofs::ChainSteps::walk_finds, crate::proofs::ChainSteps::walk_turns, crate::proofs::ChainSteps::walk_ends))]
 pub fn has_clause(row: &[i32], head: &[u16], next: &[u16], x: usize, y: usize) -> bool
     requires indexed { Indexed row.now head.now next.now }
     requires within { x < length head.now }

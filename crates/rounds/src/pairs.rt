@@ -1,7 +1,6 @@
 // Pairs: two clauses of two literals, the one of the other's opposites, say that the sides of either are opposites.
-ghost use Rattle.std.specs.Prelude.{◌≡◌, ◌+◌, ◌*◌, ◌<◌, ◌≤◌, ◌∷◌, [], map, length, eqb, not};
+ghost use Rattle.std.specs.Prelude.{◌≡◌, ◌+◌, ◌*◌, ◌<◌, ◌≤◌, map, length, eqb, not};
 ghost use Rattle.std.specs.List.{All, fold, list_any};
-ghost use Rattle.ways.specs.Ways.{among, same};
 ghost use Rattle.tables.specs.Literal.{literal, var};
 ghost use Rattle.tables.specs.Clause.{clauses};
 ghost use Rattle.rules.specs.Pairs.{pairs, torn, join};
