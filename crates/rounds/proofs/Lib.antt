@@ -19,3 +19,4 @@ pub mod Cleaned
 pub mod RoundSteps
 pub mod Whole
 pub mod SettleSteps
+pub mod ChainSteps

@@ -4,7 +4,7 @@ use mathlib.Core.List.Memᴰ
 use mathlib.Core.List.{Memᴰ}
 use borrow.Author.Tests.{eqb-true, eqb-false, eq-eqb, ne_eqb}
 use Rattle.std.proofs.lemmas.List.{map_push, length-map, length-take-le, take_at, get_or_append_left, get_or-map, get_or-take, get_or-append_right, get_or-drop}
-use Rattle.std.proofs.lemmas.List.Elements.{All-head, All-tail, All-map, All-nil, All-cons}
+use Rattle.std.proofs.lemmas.List.Elements.{All-head, All-tail, All-map, All-nil, All-cons, All-weaker}
 use Rattle.std.proofs.lemmas.Bool.{cases_lt}
 use Rattle.std.specs.List.{All}
 use Rattle.tables.specs.Literal.{literal, var}
@@ -147,6 +147,19 @@ every_entry P [] e b h = (All-nil (λ e. 2 ≤ literal e → P (literal e)), λ 
     no i = omega arith
 every_entry P (z ∷ zs) e b h = let t = ended_tail z zs e in one_entry P b z zs t.1 (every_entry P zs t.0) h
 
-pub live_clauses : (s : List ℕ) (row : List ℤ) → get_or row (length row - 1) (pos 0) ≡ pos 0 → EachLiteral (λ l. 2 ≤ replace s l) (clauses row) → All (Live s) row
+-- What a caller knows of the clauses, as facts on the entries: that the replaced clauses speak of variables from 1 on, and
+-- that the clauses speak of variables up to n.
+live_clauses : (s : List ℕ) (cs : List (List ℕ)) → EachLiteral (λ l. 1 ≤ var l) (map (map (replace s)) cs) → EachLiteral (λ l. 2 ≤ replace s l) cs
+live_clauses s cs h c i l j =
+    let one = h (map (replace s) c) (Memᴰ.map (map (replace s)) i) (replace s l) (Memᴰ.map (replace s) j) in omega arith
+
+pub live_entries : (s : List ℕ) (row : List ℤ) → Ended row → EachLiteral (λ l. 1 ≤ var l) (map (map (replace s)) (clauses row)) → All (Live s) row
 unfolding clauses
-live_clauses s row z h = (every_entry (λ l. 2 ≤ replace s l) row z [] h).0
+live_entries s row e h = (every_entry (λ l. 2 ≤ replace s l) row e [] (live_clauses s (clauses row) h)).0
+
+pub inside_entries : (n : ℕ) (row : List ℤ) → Ended row → EachLiteral (λ l. var l ≤ n) (clauses row) → All (λ e. var (literal e) < suc n) row
+unfolding clauses
+inside_entries n row e h = All-weaker (λ e. 2 ≤ literal e → var (literal e) ≤ n) (λ e. var (literal e) < suc n) low row (every_entry (λ l. var l ≤ n) row e [] h).0
+  where
+    low : (e : ℤ) → (2 ≤ literal e → var (literal e) ≤ n) → var (literal e) < suc n
+    low e w = ⊎_elim (λ l. omega arith) (λ l. let u = w l in omega arith) (cases_lt (literal e) 2)

@@ -5,3 +5,4 @@ pub mod Place
 pub mod Neighbours
 pub mod Ended
 pub mod Rounds
+pub mod PairChains

@@ -6,6 +6,7 @@ pub mod contradiction;
 pub mod earlier;
 pub mod force;
 pub mod marks;
+pub mod pair_chains;
 pub mod pairs;
 pub mod round;
 pub mod settle;

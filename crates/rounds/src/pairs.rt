@@ -1,14 +1,16 @@
 // Pairs: two clauses of two literals, the one of the other's opposites, say that the sides of either are opposites.
-ghost use Rattle.std.specs.Prelude.{◌≡◌, ◌<◌, ◌≤◌, ◌∷◌, [], map, length, eqb, not};
+ghost use Rattle.std.specs.Prelude.{◌≡◌, ◌+◌, ◌*◌, ◌<◌, ◌≤◌, map, length, eqb, not};
 ghost use Rattle.std.specs.List.{All, fold, list_any};
-ghost use Rattle.ways.specs.Ways.{among, same};
 ghost use Rattle.tables.specs.Literal.{literal, var};
 ghost use Rattle.tables.specs.Clause.{clauses};
 ghost use Rattle.rules.specs.Pairs.{pairs, torn, join};
+ghost use Rattle.rounds.specs.PairChains.{Indexed};
 ghost use Rattle.rounds.specs.Pairs.{Coded, paired_in, found};
 
+use crate::pair_chains::{HEADS, has_clause, index};
 use crate::stands::{join, replacement};
 use tables::literal::{literal, opposite};
+use tables::sizes::MOST_ENTRIES;
 
 /// What a round's search for pairs comes to.
 #[derive(Clone, Copy, Debug, PartialEq, Eq)]
@@ -21,37 +23,19 @@ pub enum Pairs {
     Joined,
 }
 
-/// Whether the clause is that of two literals.
-fn is_clause_of(clause: &[i32], x: usize, y: usize) -> bool
-    ensures { result ≡ same (x ∷ y ∷ []) (map literal clause.now) }
-{
-    clause.len() == 2 && x == literal(clause[0]) && y == literal(clause[1])
-}
-
-/// Whether the row has the clause of two literals.
-#[tactic(auto, using(crate::proofs::PairSteps::left_begins, crate::proofs::PairSteps::left_grows, crate::proofs::PairSteps::left_ends, crate::proofs::PairSteps::left_none))]
-fn has_clause(row: &[i32], x: usize, y: usize) -> bool
-    ensures { result ≡ among (x ∷ y ∷ []) (clauses row.now) }
-{
-    let mut start = 0;
-    for (place, &entry) in row.iter().enumerate() {
-        if entry == 0 {
-            if is_clause_of(&row[start..place], x, y) {
-                return true;
-            }
-            start = place + 1;
-        }
-    }
-    false
-}
-
-/// Whether a clause makes a pair in the row.
-fn is_pair(row: &[i32], clause: &[i32]) -> bool
+/// Whether a clause makes a pair in a row that is indexed.
+#[tactic(auto, using(crate::proofs::ChainSteps::opp_below))]
+fn is_pair(row: &[i32], head: &[u16], next: &[u16], clause: &[i32]) -> bool
+    requires indexed { Indexed row.now head.now next.now }
+    requires room { length row.now ≤ length next.now }
+    requires inside { All (λ e. 2 * var (literal e) + 1 < length head.now) clause.now }
     ensures { result ≡ paired_in (clauses row.now) (map literal clause.now) }
 {
     clause.len() == 2
         && has_clause(
             row,
+            head,
+            next,
             opposite(literal(clause[0])),
             opposite(literal(clause[1])),
         )
@@ -59,7 +43,10 @@ fn is_pair(row: &[i32], clause: &[i32]) -> bool
 
 /// Joins each pair of the row: whether there is one.
 #[tactic(auto, using(crate::proofs::PairSteps::kept_begins, crate::proofs::PairSteps::kept_grows, crate::proofs::PairSteps::kept_pair, crate::proofs::PairSteps::kept_other, crate::proofs::PairSteps::kept_none))]
-fn join_each(row: &[i32], stands: &mut [u16]) -> bool
+fn join_each(row: &[i32], head: &[u16], next: &[u16], stands: &mut [u16]) -> bool
+    requires indexed { Indexed row.now head.now next.now }
+    requires room { length row.now ≤ length next.now }
+    requires below { All (λ e. 2 * var (literal e) + 1 < length head.now) row.now }
     requires inside { All (λ e. var (literal e) < length stands.old) row.now }
     requires few { length stands.old ≤ 1025 }
     requires coded { Coded stands.old }
@@ -72,7 +59,7 @@ fn join_each(row: &[i32], stands: &mut [u16]) -> bool
     for (place, &entry) in row.iter().enumerate() {
         if entry == 0 {
             let clause = &row[start..place];
-            if is_pair(row, clause) {
+            if is_pair(row, head, next, clause) {
                 join(stands, clause);
                 any = true;
             }
@@ -93,14 +80,17 @@ fn is_torn(stands: &[u16], clause: &[i32]) -> bool
 
 /// Whether a pair of the row is torn.
 #[tactic(auto, using(crate::proofs::PairSteps::kept_begins, crate::proofs::PairSteps::kept_grows, crate::proofs::PairSteps::kept_pair, crate::proofs::PairSteps::kept_other, crate::proofs::PairSteps::kept_none))]
-fn any_torn(row: &[i32], stands: &[u16]) -> bool
+fn any_torn(row: &[i32], head: &[u16], next: &[u16], stands: &[u16]) -> bool
+    requires indexed { Indexed row.now head.now next.now }
+    requires room { length row.now ≤ length next.now }
+    requires below { All (λ e. 2 * var (literal e) + 1 < length head.now) row.now }
     ensures { result ≡ list_any (torn stands.now) (pairs (clauses row.now)) }
 {
     let mut start = 0;
     for (place, &entry) in row.iter().enumerate() {
         if entry == 0 {
             let clause = &row[start..place];
-            if is_pair(row, clause) && is_torn(stands, clause) {
+            if is_pair(row, head, next, clause) && is_torn(stands, clause) {
                 return true;
             }
             start = place + 1;
@@ -119,10 +109,13 @@ pub fn join_pairs(row: &[i32], stands: &mut [u16]) -> Pairs
     ensures found { result ≡ found stands.new (pairs (clauses row.now)) }
     ensures still_coded { Coded stands.new }
 {
-    if !join_each(row, stands) {
+    let mut head = [0; HEADS];
+    let mut next = [0; MOST_ENTRIES];
+    index(row, &mut head, &mut next);
+    if !join_each(row, &head, &next, stands) {
         return Pairs::NoPair;
     }
-    if any_torn(row, stands) {
+    if any_torn(row, &head, &next, stands) {
         Pairs::Torn
     } else {
         Pairs::Joined

@@ -50,7 +50,7 @@ fn alone(marks: &[u8], variable: usize) -> usize
 }
 
 /// Each variable at first: a forced one stands for its value, any other for itself.
-#[tactic(auto, using(crate::proofs::StandSteps::start_begins, crate::proofs::StandSteps::start_turns, crate::proofs::StandSteps::start_ends))]
+#[tactic(auto, using(crate::proofs::StandSteps::start_begins, crate::proofs::StandSteps::start_ends))]
 pub fn start(stands: &mut [u16], marks: &[u8])
     requires some { 1 ≤ length stands.old }
     requires few { length stands.old ≤ 1025 }
@@ -108,7 +108,7 @@ fn meet(stands: &mut [u16], a: usize, b: usize)
 }
 
 /// Makes the two literals of a clause stand for opposites.
-#[tactic(auto, using(crate::proofs::StandSteps::two_sides, crate::proofs::StandSteps::replace_coded, crate::proofs::StandSteps::join_coded), unfolding(rules::specs::Pairs::join))]
+#[tactic(auto, using(crate::proofs::StandSteps::two_sides, crate::proofs::StandSteps::replace_coded), unfolding(rules::specs::Pairs::join))]
 pub fn join(stands: &mut [u16], clause: &[i32])
     requires two { length clause.now ≡ 2 }
     requires inside { All (λ e. var (literal e) < length stands.old) clause.now }
