@@ -1,14 +1,13 @@
 -- A round's steps put together: what each of them asks of the row, and what they come to.
-use Rattle.std.proofs.Common.{◌≡◌, ◌∙◌, refl, sym, ap, subst, ℕ, zero, suc, ◌+◌, ◌-◌, ◌*◌, ◌<◌, ◌≤◌, Bool, true, false, cond, eqb, List, [], ◌∷◌, ◌++◌, map, length, get_or, take, length-take-le, get_or-take, arith, ℤ, pos, ⊎_elim, eqb-true}
+use Rattle.std.proofs.Common.{◌≡◌, ◌∙◌, refl, sym, ap, subst, ℕ, zero, suc, ◌+◌, ◌-◌, ◌*◌, ◌<◌, ◌≤◌, Bool, true, false, cond, eqb, List, [], ◌∷◌, ◌++◌, map, length, get_or, take, length-take-le, get_or-take, arith, ℤ, pos, eqb-true}
 use mathlib.Core.List.Memᴰ
 use mathlib.Core.List.{Memᴰ}
-use Rattle.std.proofs.Common.{◌⊎◌}
 use Rattle.std.specs.List.{fold, list_any, All}
 use Rattle.std.proofs.lemmas.List.{get_or_default}
 use Rattle.tables.specs.Literal.{literal, var}
 use Rattle.tables.specs.Clause.{clauses}
 use Rattle.tables.proofs.Clauses.{All as EachLiteral}
-use Rattle.tables.proofs.Literals.{literal_zero, literal_one}
+use Rattle.tables.proofs.Literals.{literal_zero}
 use Rattle.rules.specs.Forced.{forced, contradicts}
 use Rattle.rules.specs.Clean.{clean}
 use Rattle.rules.specs.Pairs.{pairs, stands, replace, starting, leaders, torn, join}
@@ -19,7 +18,7 @@ use Rattle.rounds.specs.Substitute.{Live}
 use Rattle.rounds.specs.Pairs.{found}
 use Rattle.rounds.specs.declared.pairs.Pairs.{Pairs}
 use Rattle.rounds.specs.declared.pairs.Pairs.TheVariants.{NoPair, Torn, Joined}
-use Rattle.rounds.proofs.SubstituteSteps.{LastEnds, every_entry, live_clauses}
+use Rattle.rounds.proofs.SubstituteSteps.{LastEnds, live_entries, inside_entries}
 use Rattle.rounds.proofs.PinSteps.{clean_pinned}
 
 -- A row whose last clause is ended ends with a zero, and the other way round.
@@ -73,11 +72,6 @@ last_ended b (z ∷ y ∷ ys) h e = go (eqb (literal z) 0) (last_ended [] (y ∷
     go true f g = f
     go false f g = g
 
--- What holds of a literal of every clause holds of every entry but the zeros.
-pub each_entry : (P : ℕ → Type 0) (row : List ℤ) → Ended row → EachLiteral P (clauses row) → All (λ e. 2 ≤ literal e → P (literal e)) row
-unfolding clauses
-each_entry P row e h = (every_entry P row (ended_last row e) [] h).0
-
 module _ (n : ℕ) (st : List ℕ) (cs : List (List ℕ)) (good : Good n st cs) where
   -- Each variable stands for a literal of a variable up to n, or for a value.
   pub all_inside : (k d : ℕ) → k < length st → get_or st k d < 2 * (n + 1)
@@ -90,35 +84,20 @@ module _ (n : ℕ) (st : List ℕ) (cs : List (List ℕ)) (good : Good n st cs) 
       under : (l : ℕ) → var l ≤ n → l < 2 * (n + 1)
       under l w = grind arith
 
-  -- The literals of the cleaned clauses are of variables up to n, and stand for literals.
+  -- The literals of the cleaned clauses are of variables up to n.
   pub clean_inside : EachLiteral (λ l. var l ≤ n) (ds n st cs)
   clean_inside c i l k = (ds_live n st cs good c i l k).high
-
-  pub clean_live : EachLiteral (λ l. 2 ≤ replace (s n st cs) l) (ds n st cs)
-  clean_live c i l k =
-      let f : ℕ → ℕ = replace (s n st cs) in
-      let low : 1 ≤ var (f l) = ((next_good n st cs good).over (map f c) (Memᴰ.map (map f) i) (f l) (Memᴰ.map f k)).1 in
-      two (f l) low
-    where
-      two : (x : ℕ) → 1 ≤ var x → 2 ≤ x
-      two x h = grind arith
 
   -- The entries of a row that holds them.
   module _ (row : List ℤ) (are : clauses row ≡ ds n st cs) (ends : Ended row) where
     pub row_inside : (k : ℕ) (d : ℤ) → k < length row → var (literal (get_or row k d)) < n + 1
-    row_inside k d h = under (literal (get_or row k d)) (literal_one (get_or row k d)) (each_entry (λ l. var l ≤ n) row ends (subst (EachLiteral (λ l. var l ≤ n)) (sym are) clean_inside) k d h)
-      where
-        under : (l : ℕ) → (l ≡ 1 → ⊥) → (2 ≤ l → var l ≤ n) → var l < n + 1
-        under l one h = go (cases l)
-          where
-            cases : (l : ℕ) → (l < 2) ⊎ (2 ≤ l)
-            cases l = grind arith
-
-            go : (l < 2) ⊎ (2 ≤ l) → var l < n + 1
-            go c = ⊎_elim (λ (q : l < 2). grind arith) (λ q. let w = h q in omega arith) c
+    row_inside k d h =
+        let w = inside_entries n row (ended_last row ends) (subst (EachLiteral (λ l. var l ≤ n)) (sym are) clean_inside) k d h in omega arith
 
     pub row_live : All (Live (s n st cs)) row
-    row_live = live_clauses (s n st cs) row (ended_last row ends) (subst (EachLiteral (λ l. 2 ≤ replace (s n st cs) l)) (sym are) clean_live)
+    row_live =
+        live_entries (s n st cs) row (ended_last row ends)
+        (subst (λ o. EachLiteral (λ l. 1 ≤ var l) (map (map (replace (s n st cs))) o)) (sym are) (λ c i l k. ((next_good n st cs good).over c i l k).1))
 
 -- How a round without a contradiction ends, by what its pairs come to.
 module _ (n : ℕ) (st : List ℕ) (cs : List (List ℕ)) where

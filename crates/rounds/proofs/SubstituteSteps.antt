@@ -119,7 +119,7 @@ ended_tail z (y ∷ ys) e =
     (rw less (rw more at e), λ n. omega arith)
 
 -- b: the literals of the open clause.
-abbrev pub Reached : (ℕ → Type 0) → List ℕ → List ℤ → Type 0
+abbrev Reached : (ℕ → Type 0) → List ℕ → List ℤ → Type 0
 Reached P b row = All (λ e. 2 ≤ literal e → P (literal e)) row × ((l : ℕ) → Memᴰ l b → 0 < length row → P l)
 
 one_entry : (P : ℕ → Type 0) (b : List ℕ) (z : ℤ) (zs : List ℤ) → ((literal z ≡ 0 → ⊥) → 0 < length zs)
@@ -140,7 +140,7 @@ one_entry P b z zs more rest h = go (eqb (literal z) 0) refl
         let r = rest (b ++ (literal z ∷ [])) (subst (EachLiteral P) (clause_grows b z zs e) h) in
         (All-cons (λ e. 2 ≤ literal e → P (literal e)) z zs (λ w. r.1 (literal z) (Memᴰ.append_right b (Memᴰ.head refl)) (more e)) r.0, λ l m i. r.1 l (Memᴰ.append_left (literal z ∷ []) m) (more e))
 
-pub every_entry : (P : ℕ → Type 0) (row : List ℤ) → LastEnds row → (b : List ℕ) → EachLiteral P (clauses_from b row) → Reached P b row
+every_entry : (P : ℕ → Type 0) (row : List ℤ) → LastEnds row → (b : List ℕ) → EachLiteral P (clauses_from b row) → Reached P b row
 every_entry P [] e b h = (All-nil (λ e. 2 ≤ literal e → P (literal e)), λ l m i. absurd (no i))
   where
     no : 0 < 0 → ⊥
@@ -153,11 +153,11 @@ live_clauses : (s : List ℕ) (cs : List (List ℕ)) → EachLiteral (λ l. 1 �
 live_clauses s cs h c i l j =
     let one = h (map (replace s) c) (Memᴰ.map (map (replace s)) i) (replace s l) (Memᴰ.map (replace s) j) in omega arith
 
-pub live_entries : (s : List ℕ) (row : List ℤ) → Ended row → EachLiteral (λ l. 1 ≤ var l) (map (map (replace s)) (clauses row)) → All (Live s) row
+pub live_entries : (s : List ℕ) (row : List ℤ) → LastEnds row → EachLiteral (λ l. 1 ≤ var l) (map (map (replace s)) (clauses row)) → All (Live s) row
 unfolding clauses
 live_entries s row e h = (every_entry (λ l. 2 ≤ replace s l) row e [] (live_clauses s (clauses row) h)).0
 
-pub inside_entries : (n : ℕ) (row : List ℤ) → Ended row → EachLiteral (λ l. var l ≤ n) (clauses row) → All (λ e. var (literal e) < suc n) row
+pub inside_entries : (n : ℕ) (row : List ℤ) → LastEnds row → EachLiteral (λ l. var l ≤ n) (clauses row) → All (λ e. var (literal e) < suc n) row
 unfolding clauses
 inside_entries n row e h = All-weaker (λ e. 2 ≤ literal e → var (literal e) ≤ n) (λ e. var (literal e) < suc n) low row (every_entry (λ l. var l ≤ n) row e [] h).0
   where
