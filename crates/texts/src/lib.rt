@@ -1,5 +1,6 @@
 // Clause text: what its definitions, its readers and its writers answer.
 #![tactic(auto)]
 
+pub mod bytes;
 pub mod header;
 pub mod reading;
