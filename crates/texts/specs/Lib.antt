@@ -1,6 +1,7 @@
 -- Clause text, in 01's order.
 pub mod Bytes
 pub mod Tokens
+pub mod Span
 pub mod Numbers
 pub mod Header
 pub mod Body

@@ -1,0 +1,2 @@
+-- What the code of clause text takes from its definitions, step by step.
+pub mod TokenSteps
