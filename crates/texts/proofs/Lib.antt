@@ -1,2 +1,3 @@
 -- What the code of clause text takes from its definitions, step by step.
 pub mod TokenSteps
+pub mod NumeralSteps

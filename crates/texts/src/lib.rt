@@ -3,5 +3,6 @@
 
 pub mod bytes;
 pub mod header;
+pub mod numerals;
 pub mod reading;
 pub mod tokens;
