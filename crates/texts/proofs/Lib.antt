@@ -1,3 +1,4 @@
 -- What the code of clause text takes from its definitions, step by step.
 pub mod TokenSteps
 pub mod NumeralSteps
+pub mod HeaderSteps

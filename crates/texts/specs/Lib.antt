@@ -3,6 +3,7 @@ pub mod Bytes
 pub mod Tokens
 pub mod Span
 pub mod Numbers
+pub mod Line
 pub mod Header
 pub mod Body
 pub mod Buffer
