@@ -6,6 +6,7 @@ pub mod Numbers
 pub mod Line
 pub mod Header
 pub mod Body
+pub mod Tally
 pub mod Buffer
 pub mod Reading
 pub mod Decimal

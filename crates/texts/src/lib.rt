@@ -5,4 +5,5 @@ pub mod bytes;
 pub mod header;
 pub mod numerals;
 pub mod reading;
+pub mod tally;
 pub mod tokens;
