@@ -2,3 +2,4 @@
 pub mod TokenSteps
 pub mod NumeralSteps
 pub mod HeaderSteps
+pub mod BodySteps

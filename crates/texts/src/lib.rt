@@ -1,6 +1,7 @@
 // Clause text: what its definitions, its readers and its writers answer.
 #![tactic(auto)]
 
+pub mod body;
 pub mod bytes;
 pub mod header;
 pub mod numerals;
