@@ -1,20 +1,13 @@
 -- Asking gives the filled-in value: each question goes one level down, and the levels are enough.
-use Prim.Native.Nat.{ℕ, zero, suc, ◌≤◌, ◌<◌}
-use mathlib.Core.Path.{◌≡◌, refl, sym, ap, ◌∙◌, subst}
-use mathlib.Core.Bool.{Bool, true, false}
-use mathlib.Core.List.{List, [], ◌∷◌, Memᴰ}
-use native.Mathlib.Omega.{arith}
-use lib.ListN.{length, get_or}
-use lib.Dec.{eqb}
-use borrow.Author.Tests.{eqb-true, eq-eqb, ne_eqb}
-use Rattle.std.specs.List.{fold}
+use Rattle.std.proofs.Common.{◌≡◌, ℕ, zero, suc, ◌<◌, ◌≤◌, Bool, true, false, eqb, List, [], ◌∷◌, length, get_or, fold, sym, refl, ap, ◌∙◌, subst, ⊎_elim, arith, eq-eqb, ne_eqb, eqb-true}
+use mathlib.Core.List.{Memᴰ}
+use Rattle.std.proofs.lemmas.Bool.{both_ways, cases_Bool}
 use Rattle.ways.proofs.Rows.{list_any-mem, mem-list_any, none_of}
-use Rattle.ways.proofs.Bools.{never_both}
 use Rattle.tables.specs.Literal.{var, valued}
 use Rattle.rules.specs.Kinds.{rule}
 use Rattle.rules.specs.Patterns.{Gate}
 use Rattle.rules.specs.Taking.{is_output}
-use Rattle.rules.specs.Circuit.{levels}
+use Rattle.rules.specs.Circuit.{highest, levels}
 use Rattle.rules.specs.Fill.{fill_step}
 use Rattle.rules.specs.Ask.{ask_root}
 use Rattle.circuits.proofs.Values.{rule_alike}
@@ -29,7 +22,7 @@ gate_of_output gs v e = let (g, i, q) = list_any-mem (λ g. eqb g.output v) gs e
 
 pub no_output : (gs : List Gate) (v : ℕ) → is_output gs v ≡ false → (g : Gate) → Memᴰ g gs → v ≡ g.output → ⊥
 unfolding is_output
-no_output gs v e g i q = never_both (eq-eqb g.output v (sym q)) (none_of (λ g. eqb g.output v) gs e g i)
+no_output gs v e g i q = both_ways _ (none_of (λ g. eqb g.output v) gs e g i) (eq-eqb g.output v (sym q))
 
 pub is_output_mem : (gs : List Gate) (g : Gate) → Memᴰ g gs → is_output gs g.output ≡ true
 unfolding is_output
@@ -74,27 +67,21 @@ module _ (n : ℕ) {gs : List Gate} (order : Ordered gs) (w : Within n gs) (give
 
   ask_level : (deep v : ℕ) → level v ≤ deep → ask_root deep gs (valued given) v ≡ end v
   unfolding ask_root level
-  ask_level zero v h = go (is_output gs v) refl
+  ask_level zero v h = ⊎_elim (λ e. let (g, i, q) = gate_of_output gs v e in absurd (no g i q)) (ask_other zero v) (cases_Bool (is_output gs v))
     where
       no : (g : Gate) → Memᴰ g gs → g.output ≡ v → ⊥
       no g i e = let q = level_is n order inside g i in
-          let r : get_or (levels n gs) v 0 ≡ suc (Rattle.rules.specs.Circuit.highest (levels n gs) g.inputs) = ap (λ u. get_or (levels n gs) u 0) (sym e) ∙ q in omega (arith, r)
-
-      go : (b : Bool) → is_output gs v ≡ b → valued given v ≡ end v
-      go true e = let (g, i, q) = gate_of_output gs v e in absurd (no g i q)
-      go false e = ask_other zero v e
-  ask_level (suc deep) v h = go (is_output gs v) refl (ask_level deep)
+          let r : get_or (levels n gs) v 0 ≡ suc (highest (levels n gs) g.inputs) = ap (λ u. get_or (levels n gs) u 0) (sym e) ∙ q in omega (arith, r)
+  ask_level (suc deep) v h =
+      ⊎_elim
+      (λ e. let (g, i, q) = gate_of_output gs v e in
+      pick_gate (ask_root deep gs (valued given)) v order g i q (valued given v)
+      ∙ rule_alike (ask_root deep gs (valued given)) end g.kind g.inputs (λ x j. ask_level deep (var x) (less g i q x j))
+      ∙ sym (fill_rules n order w given long g i) ∙ ap end q)
+      (ask_other (suc deep) v) (cases_Bool (is_output gs v))
     where
-      go : (b : Bool) → is_output gs v ≡ b → ((u : ℕ) → level u ≤ deep → ask_root deep gs (valued given) u ≡ end u) → ask_root (suc deep) gs (valued given) v ≡ end v
-      go true e below =
-          let (g, i, q) = gate_of_output gs v e in
-          pick_gate (ask_root deep gs (valued given)) v order g i q (valued given v)
-          ∙ rule_alike (ask_root deep gs (valued given)) end g.kind g.inputs (λ x j. below (var x) (less g i q x j))
-          ∙ sym (fill_rules n order w given long g i) ∙ ap end q
-        where
-          less : (g : Gate) → Memᴰ g gs → g.output ≡ v → (x : ℕ) → Memᴰ x g.inputs → get_or (levels n gs) (var x) 0 ≤ deep
-          less g i q x j = let r : get_or (levels n gs) (var x) 0 < get_or (levels n gs) v 0 = subst (λ u. get_or (levels n gs) (var x) 0 < get_or (levels n gs) u 0) q (level_rises n order inside g i x j) in omega (arith, r, h)
-      go false e below = ask_other (suc deep) v e
+      less : (g : Gate) → Memᴰ g gs → g.output ≡ v → (x : ℕ) → Memᴰ x g.inputs → get_or (levels n gs) (var x) 0 ≤ deep
+      less g i q x j = let r : get_or (levels n gs) (var x) 0 < get_or (levels n gs) v 0 = subst (λ u. get_or (levels n gs) (var x) 0 < get_or (levels n gs) u 0) q (level_rises n order inside g i x j) in omega (arith, r, h)
 
   pub asked_is : (v : ℕ) → ask_root (length gs) gs (valued given) v ≡ end v
   unfolding level

@@ -1,13 +1,6 @@
 -- Filling in the gates in their order gives each output its rule's value, and changes nothing else.
-use Prim.Native.Nat.{ℕ, zero, suc, ◌-◌, ◌≤◌}
-use mathlib.Core.Path.{◌≡◌, refl, sym, ap, ◌∙◌, subst}
-use mathlib.Core.Bool.{Bool, true, false}
-use mathlib.Core.List.{List, [], ◌∷◌, Memᴰ}
-use native.Mathlib.Omega.{arith}
-use lib.ListN.{length, set, length-set}
-use lib.Seq.{get_or-set_same, get_or-set_other}
-use lib.Dec.{eqb}
-use Rattle.std.specs.List.{fold}
+use Rattle.std.proofs.Common.{◌≡◌, ℕ, zero, suc, ◌-◌, ◌≤◌, Bool, true, false, eqb, List, [], ◌∷◌, length, set, fold, sym, refl, ap, ◌∙◌, subst, arith, length-set, get_or-set_other, get_or-set_same}
+use mathlib.Core.List.{Memᴰ}
 use Rattle.tables.specs.Literal.{var, valued}
 use Rattle.rules.specs.Kinds.{rule}
 use Rattle.rules.specs.Patterns.{Gate}
@@ -18,16 +11,10 @@ use Rattle.circuits.proofs.Order.{Ordered, none, next}
 -- A row of values with one value changed.
 pub valued_other : (values : List ℕ) (o v b : ℕ) → 1 ≤ o → (v ≡ o → ⊥) → valued (set values (o - 1) b) v ≡ valued values v
 valued_other values o zero b h n = refl
-valued_other values o (suc v) b h n = ap (λ t. eqb t 1) (get_or-set_other values (o - 1) v b 0 (λ e. n (up e)))
-  where
-    up : v ≡ o - 1 → suc v ≡ o
-    up e = omega arith
+valued_other values o (suc v) b h n = ap (λ t. eqb t 1) (get_or-set_other values (o - 1) v b 0 (λ e. n (omega arith)))
 
 pub valued_same : (values : List ℕ) (o b : ℕ) → 1 ≤ o → o ≤ length values → valued (set values (o - 1) b) o ≡ eqb b 1
-valued_same values zero b h l = absurd (no h)
-  where
-    no : 1 ≤ 0 → ⊥
-    no h = omega arith
+valued_same values zero b h l = absurd (omega arith)
 valued_same values (suc o) b h l = let e : suc o - 1 ≡ o = omega arith in rw e (ap (λ t. eqb t 1) (get_or-set_same values o b 0 (omega arith)))
 
 pub bit_is : (b : Bool) → eqb (bit b) 1 ≡ b

@@ -1,12 +1,8 @@
 -- Levels: one more than the inputs' highest, so they rise from inputs to outputs, and at most the number of gates.
-use Prim.Native.Nat.{ℕ, zero, suc, ◌+◌, ◌≤◌, ◌<◌, max}
-use mathlib.Core.Path.{◌≡◌, refl, sym, ap, ◌∙◌, subst}
-use mathlib.Core.List.{List, [], ◌∷◌, Memᴰ}
-use mathlib.Core.Logic.{◌⊎◌, ⊎_elim}
-use native.Mathlib.Omega.{arith}
-use lib.ListN.{length, get_or, set, length-set, replicate, length-replicate}
-use lib.Seq.{get_or-set_same, get_or-set_other}
-use Rattle.std.specs.List.{fold}
+use Rattle.std.proofs.Common.{◌≡◌, ℕ, zero, suc, ◌+◌, ◌<◌, ◌≤◌, max, List, [], ◌∷◌, length, get_or, set, replicate, fold, sym, refl, ap, ◌∙◌, subst, ⊎_elim, arith, length-set, get_or-set_other, get_or-set_same}
+use mathlib.Core.List.{Memᴰ}
+use Rattle.std.proofs.lemmas.List.{length-replicate}
+use Rattle.ways.proofs.Members.{get_or_same, set_cases}
 use Rattle.tables.specs.Literal.{var}
 use Rattle.rules.specs.Patterns.{Gate}
 use Rattle.rules.specs.Circuit.{highest, level_step, levels}
@@ -60,11 +56,6 @@ pub highest_above : (lv : List ℕ) (inputs : List ℕ) (x : ℕ) → Memᴰ x i
 unfolding highest
 highest_above lv inputs x i = high_above lv inputs 0 x i
 
-none_high : (k v : ℕ) → ◌≡◌ {A = ℕ} (get_or (replicate k 0) v 0) 0
-none_high zero v = refl
-none_high (suc k) zero = refl
-none_high (suc k) (suc v) = none_high k v
-
 -- After j more gates no level is more than j higher than before.
 run_low : (gs : List Gate) (lv : List ℕ) (b : ℕ) → ((v : ℕ) → get_or lv v 0 ≤ b) → (v : ℕ) → get_or (fold level_step lv gs) v 0 ≤ b + length gs
 unfolding level_step highest
@@ -72,24 +63,14 @@ run_low [] lv b h v = let q = h v in omega arith
 run_low (g ∷ gs) lv b h v = let q = run_low gs (level_step lv g) (b + 1) (λ u. one u) v in omega arith
   where
     one : (u : ℕ) → get_or (set lv g.output (suc (highest lv g.inputs))) u 0 ≤ b + 1
-    one u = after (set_cases lv g.output u (suc (highest lv g.inputs)))
-      where
-        set_cases : (lv : List ℕ) (o u x : ℕ) → (get_or (set lv o x) u 0 ≡ x) ⊎ (get_or (set lv o x) u 0 ≡ get_or lv u 0)
-        set_cases [] o u x = mathlib.Core.Logic.inr refl
-        set_cases (y ∷ lv) zero zero x = mathlib.Core.Logic.inl refl
-        set_cases (y ∷ lv) zero (suc u) x = mathlib.Core.Logic.inr refl
-        set_cases (y ∷ lv) (suc o) zero x = mathlib.Core.Logic.inr refl
-        set_cases (y ∷ lv) (suc o) (suc u) x = set_cases lv o u x
-
-        after : (get_or (set lv g.output (suc (highest lv g.inputs))) u 0 ≡ suc (highest lv g.inputs)) ⊎ (get_or (set lv g.output (suc (highest lv g.inputs))) u 0 ≡ get_or lv u 0)
-            → get_or (set lv g.output (suc (highest lv g.inputs))) u 0 ≤ b + 1
-        after (mathlib.Core.Logic.inl e) = let q = high_below lv g.inputs 0 b (omega arith) h in omega (arith, e)
-        after (mathlib.Core.Logic.inr e) = let q = h u in omega (arith, e)
+    one u =
+        ⊎_elim (λ e. let q = high_below lv g.inputs 0 b (omega arith) h in omega (arith, e)) (λ e. let q = h u in omega (arith, e))
+        (set_cases lv g.output u (suc (highest lv g.inputs)) 0)
 
 -- "hence at most the number of gates"
 pub levels_low : (n : ℕ) (gs : List Gate) (v : ℕ) → get_or (levels n gs) v 0 ≤ length gs
 unfolding levels
-levels_low n gs v = let q = run_low gs (replicate (n + 1) 0) 0 (λ u. omega (arith, none_high (n + 1) u)) v in omega arith
+levels_low n gs v = let q = run_low gs (replicate (n + 1) 0) 0 (λ u. omega (arith, get_or_same {X = ℕ} (n + 1) u 0)) v in omega arith
 
 module _ (n : ℕ) {gs : List Gate} (order : Ordered gs) (inside : (g : Gate) → Memᴰ g gs → g.output ≤ n) where
   room : (g : Gate) → Memᴰ g gs → g.output < length {A = ℕ} (replicate (n + 1) 0)
@@ -103,7 +84,7 @@ module _ (n : ℕ) {gs : List Gate} (order : Ordered gs) (inside : (g : Gate) �
   -- A variable that is no output has level 0.
   pub level_free : (v : ℕ) → ((g : Gate) → Memᴰ g gs → v ≡ g.output → ⊥) → get_or (levels n gs) v 0 ≡ 0
   unfolding levels
-  level_free v k = level_other gs (replicate (n + 1) 0) v k ∙ none_high (n + 1) v
+  level_free v k = level_other gs (replicate (n + 1) 0) v k ∙ get_or_same {X = ℕ} (n + 1) v 0
 
   -- Levels rise from inputs to outputs: in the order by level every input is known.
   pub level_rises : (g : Gate) → Memᴰ g gs → (x : ℕ) → Memᴰ x g.inputs → get_or (levels n gs) (var x) 0 < get_or (levels n gs) g.output 0

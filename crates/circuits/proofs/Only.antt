@@ -1,16 +1,9 @@
 -- Filling in is the only way to give every gate its value: whoever agrees with the given values on the variables that are no
 -- output, and gives each output its rule's value, has the filled-in values.
-use Prim.Native.Nat.{ℕ, ◌≤◌}
-use mathlib.Core.Path.{◌≡◌, refl, sym, ap, ◌∙◌}
-use mathlib.Core.Bool.{Bool, true, false}
+use Rattle.std.proofs.Common.{◌≡◌, ℕ, ◌≤◌, Bool, List, ◌∷◌, length, fold, sym, refl, ap, ◌∙◌, ⊎_elim, arith}
 use mathlib.Core.List.Memᴰ
-use mathlib.Core.List.{List, ◌∷◌, Memᴰ}
-use mathlib.Core.Logic.{⊎_elim}
-use native.Mathlib.Omega.{arith}
-use lib.ListN.{length}
-use lib.Dec.{eqb}
-use borrow.Author.Tests.{eqb-true, eqb-false}
-use Rattle.std.specs.List.{fold}
+use mathlib.Core.List.{Memᴰ}
+use Rattle.std.proofs.lemmas.Bool.{cases_eq}
 use Rattle.tables.specs.Literal.{var, valued}
 use Rattle.rules.specs.Patterns.{Gate}
 use Rattle.rules.specs.Fill.{fill_step}
@@ -42,13 +35,10 @@ module _ (P : ℕ → Type 0) (n : ℕ) (a : ℕ → Bool) where
       inputs x i = same (var x) (inside g here x i) (λ h j e. ⊎_elim (λ q. self x i (e ∙ ap (λ (f : Gate). f.output) q)) (λ k. (before h k).apart x i e) (Memᴰ.cases_cons j))
 
       same' : (v : ℕ) → P v → NoOutput gs v → valued (fill_step values g) v ≡ a v
-      same' v p k = go (eqb v g.output) refl
-        where
-          go : (b : Bool) → eqb v g.output ≡ b → valued (fill_step values g) v ≡ a v
-          go true e =
-              let q : v ≡ g.output = eqb-true v g.output e in
-              ap (valued (fill_step values g)) q ∙ step_same values g (w g here).0 (omega (arith, (w g here).1))
-              ∙ rule_alike (valued values) a g.kind g.inputs inputs ∙ sym (meets g here) ∙ ap a (sym q)
-          go false e =
-              step_other values g v (w g here).0 (eqb-false v g.output e)
-              ∙ same v p (λ h j q. ⊎_elim (λ r. eqb-false v g.output e (q ∙ ap (λ (f : Gate). f.output) r)) (λ r. k h r q) (Memᴰ.cases_cons j))
+      same' v p k =
+          ⊎_elim
+          (λ q. ap (valued (fill_step values g)) q ∙ step_same values g (w g here).0 (omega (arith, (w g here).1))
+          ∙ rule_alike (valued values) a g.kind g.inputs inputs ∙ sym (meets g here) ∙ ap a (sym q))
+          (λ other. step_other values g v (w g here).0 other
+          ∙ same v p (λ h j q. ⊎_elim (λ r. other (q ∙ ap (λ (f : Gate). f.output) r)) (λ r. k h r q) (Memᴰ.cases_cons j)))
+          (cases_eq v g.output)

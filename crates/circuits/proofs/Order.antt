@@ -1,18 +1,14 @@
 -- The gates taken stand in an order of evaluation: each behind those that its inputs depend on. So they have no ring.
-use Prim.Native.Nat.{ℕ, zero, suc, ◌+◌, ◌<◌}
-use mathlib.Core.Path.{◌≡◌, refl, sym, ap, ◌∙◌, subst}
-use mathlib.Core.Bool.{Bool, true, false, cond, not}
+use Rattle.std.proofs.Common.{◌≡◌, ℕ, zero, ◌+◌, ◌<◌, Bool, true, false, not, eqb, List, [], ◌∷◌, ◌++◌, length, set, replicate, fold, filter, sym, refl, ap, ◌∙◌, subst, ⊎_elim, length-set, get_or-set_same, eq-eqb}
 use mathlib.Core.List.Memᴰ
-use mathlib.Core.List.{List, [], ◌∷◌, ◌++◌, Memᴰ}
-use mathlib.Core.Logic.{⊎_elim}
-use lib.ListN.{length, set, replicate, length-set, length-replicate}
-use lib.Seq.{get_or-set_same}
-use borrow.Author.Tests.{eq-eqb, not-true}
-use Rattle.std.specs.List.{fold, list_any, filter}
-use Rattle.std.proofs.lemmas.Bool.{and_parts}
+use mathlib.Core.List.{Memᴰ}
+use Rattle.std.specs.List.{list_any}
+use Rattle.std.proofs.lemmas.Bool.{not-true, and_parts, cond_both}
+use Rattle.std.proofs.lemmas.List.{length-replicate}
 use Rattle.ways.proofs.Bools.{clash_of}
 use Rattle.ways.proofs.Runs.{fold_keeps}
 use Rattle.ways.proofs.Rows.{mem-list_any, list_any-mem, none_of, filter-mem}
+use Rattle.ways.proofs.Members.{set_cases}
 use Rattle.tables.specs.Literal.{var}
 use Rattle.rules.specs.Forced.{marked}
 use Rattle.rules.specs.Patterns.{Gate}
@@ -32,18 +28,10 @@ pub data Ordered : List Gate → Type 0 where
   none : Ordered []
   next : {g : Gate} {gs : List Gate} → Apart g g → ((h : Gate) → Memᴰ h gs → Before g h) → Ordered gs → Ordered (g ∷ gs)
 
-self_of : {gs : List Gate} → Ordered gs → (h : Gate) → Memᴰ h gs → Apart h h
-self_of none h i = elim i [ ]
-self_of (next {g = g} s b o) h (Memᴰ.head e) = subst (λ k. Apart k k) (sym e) s
-self_of (next s b o) h (Memᴰ.tail i) = self_of o h i
-
 keep_ordered : (p : Gate → Bool) {gs : List Gate} → Ordered gs → Ordered (filter p gs)
 keep_ordered p none = none
-keep_ordered p (next {g = g} {gs = gs} s b o) = go (p g) (keep_ordered p o)
-  where
-    go : (t : Bool) → Ordered (filter p gs) → Ordered (cond t (g ∷ filter p gs) (filter p gs))
-    go true k = next s (λ h i. b h (filter-mem p gs h i).0) k
-    go false k = k
+keep_ordered p (next {g = g} {gs = gs} s b o) =
+    cond_both (p g) (g ∷ filter p gs) (filter p gs) Ordered (λ e. next s (λ h i. b h (filter-mem p gs h i).0) (keep_ordered p o)) (λ e. keep_ordered p o)
 
 append_ordered : {gs hs : List Gate} → Ordered gs → Ordered hs → ((g : Gate) → Memᴰ g gs → (h : Gate) → Memᴰ h hs → Before g h) → Ordered (gs ++ hs)
 append_ordered none k c = k
@@ -51,12 +39,7 @@ append_ordered (next {g = g} {gs = gs} s b o) k c =
     next s (λ h i. ⊎_elim (b h) (c g (Memᴰ.head refl) h) (Memᴰ.append_cases gs i)) (append_ordered o k (λ f i. c f (Memᴰ.tail i)))
 
 set_keeps : (m : List ℕ) (b v : ℕ) → marked m v ≡ true → marked (set m b 1) v ≡ true
-unfolding marked
-set_keeps [] b v e = e
-set_keeps (x ∷ m) zero zero e = refl
-set_keeps (x ∷ m) zero (suc v) e = e
-set_keeps (x ∷ m) (suc b) zero e = e
-set_keeps (x ∷ m) (suc b) (suc v) e = set_keeps m b v e
+set_keeps m b v e = ⊎_elim (λ q. ap (λ x. eqb x 1) q) (λ q. ap (λ x. eqb x 1) q ∙ e) (set_cases m b v 1 0)
 
 -- the marks of what depends on a variable: once a gate's input is marked, its output is
 module _ (k : ℕ) where
@@ -64,33 +47,24 @@ module _ (k : ℕ) where
   mark_was : (gs : List Gate) (m : List ℕ) (v : ℕ) → ((h : Gate) → Memᴰ h gs → v ≡ h.output → ⊥) → marked (fold depend_step m gs) v ≡ true → marked m v ≡ true
   unfolding depend_step
   mark_was [] m v n e = e
-  mark_was (g ∷ gs) m v n e = go (touched m g) (mark_was gs (depend_step m g) v (λ h i. n h (Memᴰ.tail i)) e)
-    where
-      go : (b : Bool) → marked (cond b (set m g.output 1) m) v ≡ true → marked m v ≡ true
-      go true f = ⊎_elim (λ q. absurd (n g (Memᴰ.head refl) q)) (λ q. q) (set_was m g.output v f)
-      go false f = f
+  mark_was (g ∷ gs) m v n e =
+      cond_both (touched m g) (set m g.output 1) m (λ k. marked k v ≡ true → marked m v ≡ true)
+      (λ t f. ⊎_elim (λ q. absurd (n g (Memᴰ.head refl) q)) (λ q. q) (set_was m g.output v f)) (λ t f. f)
+      (mark_was gs (depend_step m g) v (λ h i. n h (Memᴰ.tail i)) e)
 
   step_stays : (m : List ℕ) (g : Gate) (v : ℕ) → marked m v ≡ true → marked (depend_step m g) v ≡ true
   unfolding depend_step
-  step_stays m g v f = go (touched m g)
-    where
-      go : (b : Bool) → marked (cond b (set m g.output 1) m) v ≡ true
-      go true = set_keeps m g.output v f
-      go false = f
+  step_stays m g v f = cond_both (touched m g) (set m g.output 1) m (λ k. marked k v ≡ true) (λ t. set_keeps m g.output v f) (λ t. f)
 
   pub mark_stays : (gs : List Gate) (m : List ℕ) (v : ℕ) → marked m v ≡ true → marked (fold depend_step m gs) v ≡ true
   mark_stays gs m v e = fold_keeps depend_step (λ m. marked m v ≡ true) gs (λ m g i. step_stays m g v) m e
 
   step_long : (m : List ℕ) (g : Gate) → length m ≡ k → length (depend_step m g) ≡ k
   unfolding depend_step
-  step_long m g l = go (touched m g)
-    where
-      go : (b : Bool) → length (cond b (set m g.output 1) m) ≡ k
-      go true = length-set m g.output 1 ∙ l
-      go false = l
+  step_long m g l = cond_both (touched m g) (set m g.output 1) m (λ s. length s ≡ k) (λ t. length-set m g.output 1 ∙ l) (λ t. l)
 
   step_sets : (m : List ℕ) (g : Gate) → length m ≡ k → g.output < k → touched m g ≡ true → marked (depend_step m g) g.output ≡ true
-  unfolding depend_step marked
+  unfolding depend_step
   step_sets m g l b t = rw t (eq-eqb _ 1 (get_or-set_same m g.output 1 0 (rw l b)))
 
   pub closed : {gs : List Gate} → Ordered gs → (m : List ℕ) → length m ≡ k → (h : Gate) → Memᴰ h gs → h.output < k
@@ -110,7 +84,6 @@ module _ (k : ℕ) where
   closed (next {g = g} s bf o) m l h (Memᴰ.tail i) b e = closed o (depend_step m g) (step_long m g l) h i b e
 
 pub own_mark : (n o : ℕ) → o < n + 1 → marked (set (replicate (n + 1) 0) o 1) o ≡ true
-unfolding marked
 own_mark n o h = eq-eqb _ 1 (get_or-set_same (replicate (n + 1) 0) o 1 0 (rw (length-replicate (n + 1) zero) h))
 
 -- a gate that is allowed can be put in its place

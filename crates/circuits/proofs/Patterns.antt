@@ -1,19 +1,18 @@
 -- A gate's pattern holds under an assignment exactly where the output has its kind's value of the inputs: the and-form
 -- once for every number of inputs, parity once for every width.
-use Prim.Native.Nat.{ℕ, ◌+◌, ◌*◌}
-use mathlib.Core.Path.{◌≡◌, refl, sym, ap, ◌∙◌}
-use mathlib.Core.Bool.{Bool, true, false, cond, ◌&&◌, ◌||◌, not, xor, or-false, or-true, beq}
+use Rattle.std.proofs.Common.{◌≡◌, ℕ, ◌+◌, ◌*◌, Bool, true, false, cond, not, ◌&&◌, ◌||◌, ◌↔◌, List, [], ◌∷◌, ◌++◌, map, sym, refl, ap, ◌∙◌, ⊎_elim, rules, eq-eqb, ne_eqb}
 use mathlib.Core.List.Memᴰ
-use mathlib.Core.List.{List, [], ◌∷◌, ◌++◌, map, Memᴰ}
-use mathlib.Core.Logic.{⊎_elim, ◌↔◌}
-use lib.Dec.{eqb}
-use borrow.Author.Tests.{eqb-true, eq-eqb, ne_eqb}
-use Rattle.std.specs.List.{list_any, list_all, filter}
-use Rattle.ways.specs.Ways.{oddly}
-use Rattle.std.proofs.lemmas.Bool.{or_cases, or_left, or_right}
-use Rattle.ways.proofs.Bools.{agree}
+use mathlib.Core.List.{Memᴰ}
+use Rattle.std.specs.Cmp.{booleans_Decides}
+use Rattle.std.specs.List.{list_any, list_all}
+use Rattle.std.proofs.Math.Bool.{or-false, or-true, beq, xor}
+use Rattle.std.proofs.lemmas.Bool.{or_cases, or_left, or_right, cases_eq}
+use Rattle.std.proofs.lemmas.Bool.Decides.{Decides-at}
 use Rattle.std.proofs.lemmas.List.Folds.{list_all-map}
+use Rattle.ways.specs.Ways.{oddly}
+use Rattle.ways.proofs.Bools.{agree}
 use Rattle.ways.proofs.Rows.{list_any-mem, mem-list_any, filter-mem, mem-filter, list_all_alike, list_all-not, oddly-map}
+use Rattle.ways.proofs.Counts.{filter_other}
 use Rattle.tables.specs.Literal.{var, neg, opp, holds}
 use Rattle.tables.specs.Clause.{satisfies, satisfies_all}
 use Rattle.tables.proofs.Literals.{holds_pos, holds-neg, holds-opp}
@@ -25,56 +24,26 @@ use Rattle.settling.proofs.Clean.{insert_sat}
 use Rattle.settling.proofs.Proper.{Distinct, more}
 use Rattle.circuits.proofs.Values.{and_rule, parity_rule}
 
-iff : (p v w : Bool) → p ≡ beq v w → (p ≡ true) ↔ (v ≡ w)
-iff p v w e = ((λ q. replace v w (sym e ∙ q)), (λ q. e ∙ from v w q))
-  where
-    replace : (v w : Bool) → beq v w ≡ true → v ≡ w
-    replace true true e = refl
-    replace true false e = sym e
-    replace false true e = e
-    replace false false e = refl
-
-    from : (v w : Bool) → v ≡ w → beq v w ≡ true
-    from true true e = refl
-    from true false e = sym e
-    from false true e = e
-    from false false e = refl
-
 module _ (a : ℕ → Bool) where
   -- Parity: the signings of one kind hold together exactly where the number of ones is of the other kind.
   under : (l : ℕ) (cs : List (List ℕ)) → satisfies_all a (map (λ c. l ∷ c) cs) ≡ (holds a l || satisfies_all a cs)
   under l [] = sym (or-true (holds a l))
-  under l (c ∷ cs) = go (holds a l) (list_any (holds a) c) (list_all (satisfies a) (map (λ d. l ∷ d) cs)) (list_all (satisfies a) cs) (under l cs)
-    where
-      go : (b s e f : Bool) → e ≡ (b || f) → ((b || s) && e) ≡ (b || (s && f))
-      go true s e f h = h
-      go false s e f h = ap (λ t. s && t) h
+  under l (c ∷ cs) = rw (under l cs) (search rules)
 
   none_sat : (odd : Bool) → satisfies_all a (signings [] odd) ≡ xor odd false
   unfolding signings xor
-  none_sat true = refl
-  none_sat false = refl
-
-  choose : (b o r : Bool) → ((b || xor o r) && (not b || xor (not o) r)) ≡ xor o (xor b r)
-  unfolding xor
-  choose true true true = refl
-  choose true true false = refl
-  choose true false true = refl
-  choose true false false = refl
-  choose false true true = refl
-  choose false true false = refl
-  choose false false true = refl
-  choose false false false = refl
+  none_sat odd = search rules
 
   cons : (v : ℕ) (vs : List ℕ) (odd : Bool) → signings (v ∷ vs) odd ≡ map (λ c. (2 * v) ∷ c) (signings vs odd) ++ map (λ c. (2 * v + 1) ∷ c) (signings vs (not odd))
   unfolding signings
   cons v vs odd = refl
 
   pub signings_sat : (vs : List ℕ) (odd : Bool) → satisfies_all a (signings vs odd) ≡ xor odd (oddly a vs)
+  unfolding xor
   signings_sat [] odd = none_sat odd
   signings_sat (v ∷ vs) odd =
       rw (cons, all_append a _ _, under (2 * v) (signings vs odd), under (2 * v + 1) (signings vs (not odd)), holds_pos a v, holds-neg a v, signings_sat vs odd, signings_sat vs (not odd))
-      (choose (a v) odd (oddly a vs))
+      (search rules)
 
   -- the gate's equation
   abbrev pub Meets : Gate → Type 0
@@ -83,12 +52,9 @@ module _ (a : ℕ → Bool) where
   others_sat : (c : List ℕ) (o : ℕ) → Memᴰ o c → satisfies a c ≡ (holds a o || satisfies a (others o c))
   unfolding others
   others_sat c o i = agree _ _
-      (λ e. let (x, j, h) = list_any-mem (holds a) c e in go x j h (eqb x o) refl)
+      (λ e. let (x, j, h) = list_any-mem (holds a) c e in
+      ⊎_elim (λ q. or_left _ _ (ap (holds a) (sym q) ∙ h)) (λ n. or_right (holds a o) _ (mem-list_any (holds a) _ x (mem-filter _ c x j (ap not (ne_eqb x o n))) h)) (cases_eq x o))
       (λ e. ⊎_elim (mem-list_any (holds a) c o i) (λ f. let (x, j, h) = list_any-mem (holds a) _ f in mem-list_any (holds a) c x (filter-mem _ c x j).0 h) (or_cases _ _ e))
-    where
-      go : (x : ℕ) → Memᴰ x c → holds a x ≡ true → (b : Bool) → eqb x o ≡ b → (holds a o || list_any (holds a) (filter (λ y. not (eqb y o)) c)) ≡ true
-      go x j h true e = or_left _ _ (ap (holds a) (sym (eqb-true x o e)) ∙ h)
-      go x j h false e = or_right (holds a o) _ (mem-list_any (holds a) _ x (mem-filter _ c x j (ap not e)) h)
 
   side_sat : (o x : ℕ) → satisfies a (side o x) ≡ (not (holds a o) || not (holds a x))
   unfolding side
@@ -96,15 +62,7 @@ module _ (a : ℕ → Bool) where
 
   sides_sat : (o : ℕ) (xs : List ℕ) → satisfies_all a (map (side o) xs) ≡ (not (holds a o) || not (satisfies a xs))
   sides_sat o [] = sym (or-true (not (holds a o)))
-  sides_sat o (x ∷ xs) = go (holds a o) (holds a x) (list_any (holds a) xs) (side_sat o x) (sides_sat o xs)
-    where
-      go : (p q r : Bool) {s t : Bool} → s ≡ (not p || not q) → t ≡ (not p || not r) → (s && t) ≡ (not p || not (q || r))
-      go p q r e f = rw (e, f) (table p q r)
-        where
-          table : (p q r : Bool) → ((not p || not q) && (not p || not r)) ≡ (not p || not (q || r))
-          table true true r = refl
-          table true false r = refl
-          table false q r = refl
+  sides_sat o (x ∷ xs) = rw (side_sat o x, sides_sat o xs) (search rules)
 
   not_some : (xs : List ℕ) → list_all (holds a) (map opp xs) ≡ not (list_any (holds a) xs)
   not_some xs = list_all-map (holds a) opp xs ∙ list_all_alike (λ x. holds a (opp x)) (λ x. not (holds a x)) xs (λ x i. holds-opp a x) ∙ list_all-not (holds a) xs
@@ -122,48 +80,31 @@ module _ (a : ℕ → Bool) where
 
   pub and_meets : (c : List ℕ) (o : ℕ) → Memᴰ o c → (satisfies_all a (and_form c o).pattern ≡ true) ↔ Meets (and_form c o)
   unfolding and_form
-  and_meets c o i = iff _ (a (var o)) _ (rw (others_sat c o i, sides_sat o (others o c)) (table (neg o) (a (var o)) (satisfies a (others o c)) ∙ ap (beq (a (var o))) (sym (and_value c o))))
+  and_meets c o i =
+      Decides-at _ (beq (a (var o)) _)
+      (rw (others_sat c o i, sides_sat o (others o c)) (table (neg o) (a (var o)) (satisfies a (others o c)) ∙ ap (beq (a (var o))) (sym (and_value c o))))
+      (booleans_Decides (a (var o)) _)
     where
       table : (b v s : Bool) → ((cond b (not v) v || s) && (not (cond b (not v) v) || not s)) ≡ beq v (cond b s (not s))
-      table true true true = refl
-      table true true false = refl
-      table true false true = refl
-      table true false false = refl
-      table false true true = refl
-      table false true false = refl
-      table false false true = refl
-      table false false false = refl
-
-  keep_all : (c : List ℕ) (o : ℕ) → (Memᴰ o c → ⊥) → filter (λ x. not (eqb x o)) c ≡ c
-  keep_all [] o h = refl
-  keep_all (x ∷ c) o h = rw (ne_eqb x o (λ e. h (Memᴰ.head (sym e))), keep_all c o (λ i. h (Memᴰ.tail i)))
+      table b v s = search rules
 
   xor_swap : (p q r : Bool) → xor p (xor q r) ≡ xor q (xor p r)
   unfolding xor
-  xor_swap true true r = refl
-  xor_swap true false true = refl
-  xor_swap true false false = refl
-  xor_swap false true true = refl
-  xor_swap false true false = refl
-  xor_swap false false r = refl
+  xor_swap p q r = search rules
 
   parity_table : (p v s : Bool) → xor p (xor v s) ≡ beq v (cond p s (not s))
   unfolding xor
-  parity_table true true true = refl
-  parity_table true true false = refl
-  parity_table true false true = refl
-  parity_table true false false = refl
-  parity_table false true true = refl
-  parity_table false true false = refl
-  parity_table false false true = refl
-  parity_table false false false = refl
+  parity_table p v s = search rules
 
   pub odd-others : (p : ℕ → Bool) (c : List ℕ) (o : ℕ) → Distinct c → Memᴰ o c → oddly p c ≡ xor (p o) (oddly p (others o c))
   unfolding others
   odd-others p [] o _ i = elim i [ ]
-  odd-others p (x ∷ c) o (more h d) (Memᴰ.head q) = rw (eq-eqb x o (sym q), keep_all c o (λ i. h (Memᴰ.cast (sym q) i)), q)
+  odd-others p (x ∷ c) o (more h d) (Memᴰ.head q) = rw (eq-eqb x o (sym q), filter_other c o (λ i. h (Memᴰ.cast (sym q) i)), q)
   odd-others p (x ∷ c) o (more h d) (Memᴰ.tail i) = rw (ne_eqb x o (λ e. h (Memᴰ.cast e i)), odd-others p c o d i) (xor_swap (p x) (p o) (oddly p (others o c)))
 
   pub parity_meets : (c : List ℕ) (o : ℕ) → Distinct c → Memᴰ o c → (satisfies_all a (parity c o).pattern ≡ true) ↔ Meets (parity c o)
   unfolding parity group
-  parity_meets c o d i = iff _ (a (var o)) _ (signings_sat (map var c) (odd c) ∙ rw (oddly-map var a c, odd-others (λ x. a (var x)) c o d i) (rw (parity_rule a (odd c) (others o c)) (parity_table (odd c) (a (var o)) (oddly (λ x. a (var x)) (others o c)))))
+  parity_meets c o d i =
+      Decides-at _ (beq (a (var o)) _)
+      (signings_sat (map var c) (odd c) ∙ rw (oddly-map var a c, odd-others (λ x. a (var x)) c o d i) (rw (parity_rule a (odd c) (others o c)) (parity_table (odd c) (a (var o)) (oddly (λ x. a (var x)) (others o c)))))
+      (booleans_Decides (a (var o)) _)

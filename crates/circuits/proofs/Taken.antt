@@ -1,19 +1,11 @@
 -- The gates taken, by any rule that allows no more than 01's: each is found in the settled table, says what its pattern says,
 -- and together they stand in an order of evaluation.
-use Prim.Native.Nat.{ℕ, ◌*◌, ◌≤◌}
-use mathlib.Core.Path.{◌≡◌, refl, sym, ap, ◌∙◌, subst}
-use mathlib.Core.Bool.{Bool, true, false, cond, not}
+use Rattle.std.proofs.Common.{◌≡◌, ℕ, ◌*◌, ◌≤◌, Bool, true, false, cond, not, ltb, ◌⊎◌, ◌↔◌, List, [], ◌∷◌, map, length, filter, sym, refl, ap, ◌∙◌, subst, inl, inr, ⊎_elim, arith}
 use mathlib.Core.List.Memᴰ
-use mathlib.Core.List.{List, [], ◌∷◌, map, Memᴰ}
-use mathlib.Core.Logic.{◌⊎◌, inl, inr, ⊎_elim, ◌↔◌}
-use native.Mathlib.Omega.{arith}
-use lib.ListN.{length}
-use lib.Dec.{ltb}
-use borrow.Author.Tests.{eqb-false, not-true}
-use Rattle.std.specs.List.{filter}
+use mathlib.Core.List.{Memᴰ}
+use Rattle.std.proofs.lemmas.Bool.{eqb-false, not-true, cases_Bool, cond_both}
 use Rattle.ways.proofs.Runs.{fold_keeps}
 use Rattle.ways.proofs.Rows.{filter-mem}
-use Rattle.ways.proofs.Members.{map-mem}
 use Rattle.tables.specs.Literal.{var, neg, opp}
 use Rattle.tables.specs.Clause.{satisfies_all}
 use Rattle.tables.proofs.Literals.{var-opp, var_pos}
@@ -23,8 +15,8 @@ use Rattle.rules.specs.Patterns.{Gate, others, and_inputs, and_form, parity, anc
 use Rattle.rules.specs.Taking.{candidates, dependents, allowed, place, take_first, take_at, taken_by}
 use Rattle.settling.proofs.Proper.{Proper, rising_distinct}
 use Rattle.circuits.proofs.Patterns.{Meets, and_meets, parity_meets}
-use Rattle.circuits.proofs.Written.{Speaks, and_speaks, parity_speaks, and_written, parity_written}
 use Rattle.circuits.proofs.Order.{Apart, Ordered, none, place_ordered}
+use Rattle.circuits.proofs.Written.{Speaks, and_speaks, parity_speaks, and_written, parity_written}
 
 -- What holds of each gate taken.
 pub record Valid (n : ℕ) (cs : List (List ℕ)) (g : Gate) : Type 0 where
@@ -44,15 +36,13 @@ module _ (c : List ℕ) (o : ℕ) where
   -- The inputs of a candidate are of the anchor's other variables.
   pub and_input : (x : ℕ) → Memᴰ x (and_form c o).inputs → (l : ℕ) × Memᴰ l (others o c) × (var l ≡ var x)
   unfolding and_form and_inputs
-  and_input x = go (neg o)
-    where
-      go : (b : Bool) → Memᴰ x (cond b (others o c) (map opp (others o c))) → (l : ℕ) × Memᴰ l (others o c) × (var l ≡ var x)
-      go true j = (x, j, refl)
-      go false j = let (y, k, q) = map-mem opp (others o c) x j in (y, k, sym (var-opp y) ∙ ap var (sym q))
+  and_input x =
+      cond_both (neg o) (others o c) (map opp (others o c)) (λ ys. Memᴰ x ys → (l : ℕ) × Memᴰ l (others o c) × (var l ≡ var x)) (λ e j. (x, j, refl))
+      (λ e j. let (y, k, q) = Memᴰ.of_map opp (others o c) j in (y, k, sym (var-opp y) ∙ ap var q))
 
   pub parity_input : (x : ℕ) → Memᴰ x (parity c o).inputs → (l : ℕ) × Memᴰ l (others o c) × (var l ≡ var x)
   unfolding parity
-  parity_input x j = let (y, k, q) = map-mem (λ x. 2 * var x) (others o c) x j in (y, k, sym (var_pos (var y)) ∙ ap var (sym q))
+  parity_input x j = let (y, k, q) = Memᴰ.of_map (λ x. 2 * var x) (others o c) j in (y, k, sym (var_pos (var y)) ∙ ap var q)
 
   pub others_in : (x : ℕ) → Memᴰ x (others o c) → Memᴰ x c
   unfolding others
@@ -68,44 +58,38 @@ module _ (n : ℕ) (cs : List (List ℕ)) (inside : Inside n cs) (proper : (c : 
   unfolding candidates and_form parity
   candidate_valid c k g i =
       let (j, t) = filter-mem (found cs) _ g i in
-      ⊎_elim (λ j. from_parity (anchors cs c) j t) (λ j. let (o, w, q) = map-mem (and_form c) c g j in subst (Valid n cs) (sym q) (and_valid o w (ap (found cs) (sym q) ∙ t)))
+      ⊎_elim (λ j. from_parity j t) (λ j. let (o, w, q) = Memᴰ.of_map (and_form c) c j in subst (Valid n cs) q (and_valid o w (ap (found cs) q ∙ t)))
       (Memᴰ.append_cases (cond (anchors cs c) (map (parity c) c) []) j)
     where
-      and_valid : (o : ℕ) → Memᴰ o c → found cs (and_form c o) ≡ true → Valid n cs (and_form c o)
-      and_valid o w t =
+      valid : (g : Gate) (o : ℕ) → Memᴰ o c → g.output ≡ var o → found cs g ≡ true → ((x : ℕ) → Memᴰ x g.inputs → (l : ℕ) × Memᴰ l (others o c) × (var l ≡ var x))
+          → ((a : ℕ → Bool) → (satisfies_all a g.pattern ≡ true) ↔ Meets a g) → Speaks g → written_out g ≡ g.pattern → Valid n cs g
+      valid g o w e t inputs meets speaks written =
           record {
             there = t;
-            self = λ x j e. let (l, h, q) = and_input c o x j in others_apart c o (proper c k) w l h (q ∙ e);
-            low = (inside c k o w).0;
-            high = (inside c k o w).1;
-            meets = λ a. and_meets a c o w;
-            speaks = and_speaks c o w;
-            written = and_written c o (proper c k) w;
+            self = λ x j q. let (l, h, r) = inputs x j in others_apart c o (proper c k) w l h (r ∙ q ∙ e);
+            low = rw e (inside c k o w).0;
+            high = rw e (inside c k o w).1;
+            meets = meets;
+            speaks = speaks;
+            written = written;
             anchor = c;
             anchored = k;
-            output_of = (o, w, refl);
-            input_of = λ x j. let (l, h, q) = and_input c o x j in (l, others_in c o l h, q);
+            output_of = (o, w, sym e);
+            input_of = λ x j. let (l, h, r) = inputs x j in (l, others_in c o l h, r);
           }
+
+      and_valid : (o : ℕ) → Memᴰ o c → found cs (and_form c o) ≡ true → Valid n cs (and_form c o)
+      and_valid o w t = valid (and_form c o) o w refl t (and_input c o) (λ a. and_meets a c o w) (and_speaks c o w) (and_written c o (proper c k) w)
 
       parity_valid : (o : ℕ) → Memᴰ o c → found cs (parity c o) ≡ true → Valid n cs (parity c o)
       parity_valid o w t =
-          record {
-            there = t;
-            self = λ x j e. let (l, h, q) = parity_input c o x j in others_apart c o (proper c k) w l h (q ∙ e);
-            low = (inside c k o w).0;
-            high = (inside c k o w).1;
-            meets = λ a. parity_meets a c o (rising_distinct (proper c k).rises) w;
-            speaks = parity_speaks c o w;
-            written = parity_written c o (proper c k) w;
-            anchor = c;
-            anchored = k;
-            output_of = (o, w, refl);
-            input_of = λ x j. let (l, h, q) = parity_input c o x j in (l, others_in c o l h, q);
-          }
+          valid (parity c o) o w refl t (parity_input c o) (λ a. parity_meets a c o (rising_distinct (proper c k).rises) w) (parity_speaks c o w)
+          (parity_written c o (proper c k) w)
 
-      from_parity : (b : Bool) → Memᴰ g (cond b (map (parity c) c) []) → found cs g ≡ true → Valid n cs g
-      from_parity true j t = let (o, w, q) = map-mem (parity c) c g j in subst (Valid n cs) (sym q) (parity_valid o w (ap (found cs) (sym q) ∙ t))
-      from_parity false j t = absurd (Memᴰ.not-nil j)
+      from_parity : Memᴰ g (cond (anchors cs c) (map (parity c) c) []) → found cs g ≡ true → Valid n cs g
+      from_parity =
+          cond_both (anchors cs c) (map (parity c) c) [] (λ gs. Memᴰ g gs → found cs g ≡ true → Valid n cs g)
+          (λ e j t. let (o, w, q) = Memᴰ.of_map (parity c) c j in subst (Valid n cs) q (parity_valid o w (ap (found cs) q ∙ t))) (λ e j. absurd (Memᴰ.not-nil j))
 
   pub record Taken (gs : List Gate) : Type 0 where
     pub order : Ordered gs
@@ -132,16 +116,13 @@ module _ (n : ℕ) (cs : List (List ℕ)) (inside : Inside n cs) (proper : (c : 
     first_taken : (gs more : List Gate) → ((g : Gate) → Memᴰ g more → Valid n cs g) → Taken gs → Taken (take_first may n gs more)
     unfolding take_first
     first_taken gs [] h t = t
-    first_taken gs (g ∷ more) h t = go (may gs g) refl (first_taken gs more (λ f i. h f (Memᴰ.tail i)) t)
-      where
-        go : (b : Bool) → may gs g ≡ b → Taken (take_first may n gs more) → Taken (elim b as (λ _. List Gate) [ true ↦ place n gs g | false ↦ take_first may n gs more ])
-        go true e k = place_taken gs g t (h g (Memᴰ.head refl)) (strict gs g e)
-        go false e k = k
+    first_taken gs (g ∷ more) h t =
+        ⊎_elim (λ (e : may gs g ≡ true). rw (take_first, e) (place_taken gs g t (h g (Memᴰ.head refl)) (strict gs g e))) (λ (e : may gs g ≡ false). rw (take_first, e) (first_taken gs more (λ f i. h f (Memᴰ.tail i)) t))
+        (cases_Bool (may gs g))
 
     pub taken_is : Taken (taken_by may n cs)
     unfolding taken_by take_at
-    taken_is = fold_keeps (take_at may n cs) Taken cs (λ gs c i t. go gs c i t (ltb 2 (length c))) [] (record { order = none; valid = λ g i. absurd (Memᴰ.not-nil i) })
+    taken_is = fold_keeps (take_at may n cs) Taken cs step [] (record { order = none; valid = λ g i. absurd (Memᴰ.not-nil i) })
       where
-        go : (gs : List Gate) (c : List ℕ) → Memᴰ c cs → Taken gs → (b : Bool) → Taken (elim b as (λ _. List Gate) [ true ↦ take_first may n gs (candidates cs c) | false ↦ gs ])
-        go gs c i t true = first_taken gs (candidates cs c) (candidate_valid c i) t
-        go gs c i t false = t
+        step : (gs : List Gate) (c : List ℕ) → Memᴰ c cs → Taken gs → Taken (take_at may n cs gs c)
+        step gs c i t = ⊎_elim (λ (e : ltb 2 (length c) ≡ true). rw (take_at, e) (first_taken gs (candidates cs c) (candidate_valid c i) t)) (λ (e : ltb 2 (length c) ≡ false). rw (take_at, e) t) (cases_Bool (ltb 2 (length c)))

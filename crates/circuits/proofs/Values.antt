@@ -1,12 +1,9 @@
 -- Each kind's rule of value in terms of its input literals: and-like kinds for every number of inputs, parity for every
 -- width; and the kind table's signs.
-use Prim.Native.Nat.{ℕ, ◌+◌, ◌*◌}
-use mathlib.Core.Path.{◌≡◌, refl, sym, ap, ◌∙◌}
-use mathlib.Core.Bool.{Bool, true, false, cond, not}
-use mathlib.Core.List.{List, map, Memᴰ}
-use lib.Dec.{eqb}
-use borrow.Author.Tests.{not-true}
+use Rattle.std.proofs.Common.{◌≡◌, ℕ, ◌+◌, ◌*◌, Bool, true, false, cond, not, eqb, List, map, sym, refl, ap, ◌∙◌}
+use mathlib.Core.List.{Memᴰ}
 use Rattle.std.specs.List.{list_any, list_all, range_with_len}
+use Rattle.std.proofs.lemmas.Bool.{not-true}
 use Rattle.ways.specs.Ways.{oddly}
 use Rattle.ways.proofs.Rows.{list_all-mem, list_all_alike, list_any_alike, oddly_alike, oddly-map, list_all-not, list_any-not}
 use Rattle.tables.specs.Literal.{var, neg, holds}

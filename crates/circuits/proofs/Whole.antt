@@ -1,22 +1,14 @@
 -- A settled table with its gates taken: filled in from any values it is satisfied exactly where the residue is; an assignment
 -- that satisfies it is the one filled in from its own free values; and every variable has exactly one part.
-use Prim.Native.Nat.{ℕ, zero, suc, ◌+◌, ◌*◌, ◌≤◌, ◌<◌}
-use mathlib.Core.Path.{◌≡◌, refl, sym, ap, ◌∙◌, subst}
-use mathlib.Core.Bool.{Bool, true, false, not, ◌&&◌}
-use mathlib.Core.List.{List, Memᴰ}
-use mathlib.Core.Logic.{◌↔◌}
-use native.Mathlib.Omega.{arith}
-use lib.ListN.{length, get_or, length-map}
-use lib.Seq.{ext_get_or}
-use lib.Dec.{eqb, ltb}
-use borrow.Author.Tests.{eqb-true, eqb-false, eq-eqb, le-ltb, not-true}
-use Rattle.std.specs.List.{fold, list_all, filter, range_with_len}
-use Rattle.std.proofs.lemmas.Bool.{and_parts, false_from_ne_true}
-use Rattle.std.proofs.lemmas.List.FromFn.{length-range_with_len}
-use Rattle.ways.proofs.Bools.{never_both}
+use Rattle.std.proofs.Common.{◌≡◌, ℕ, zero, suc, ◌+◌, ◌*◌, ◌<◌, ◌≤◌, Bool, true, false, not, ◌&&◌, eqb, ltb, ◌↔◌, List, length, get_or, fold, filter, sym, refl, ap, ◌∙◌, subst, ⊎_elim, arith, ext_get_or, le-ltb, eq-eqb, eqb-true}
+use mathlib.Core.List.Memᴰ
+use mathlib.Core.List.{Memᴰ}
+use Rattle.std.specs.List.{list_all, range_with_len}
+use Rattle.std.proofs.lemmas.Bool.{eqb-false, not-true, and_parts, false_from_ne_true, both_ways, cases_Bool}
+use Rattle.std.proofs.lemmas.List.FromFn.{get_or-map-range_with_len, length-map-range_with_len}
+use Rattle.ways.specs.Ways.{among}
 use Rattle.ways.proofs.Rows.{list_all-mem, mem-list_all, filter-mem, mem-filter}
-use Rattle.std.proofs.lemmas.List.FromFn.{get_or-map-range_with_len}
-use Rattle.ways.proofs.Members.{among-mem, map-mem, get_or-mem}
+use Rattle.ways.proofs.Members.{among-mem, get_or-mem}
 use Rattle.tables.specs.Literal.{var, holds, valued}
 use Rattle.tables.specs.Clause.{satisfies, satisfies_all}
 use Rattle.tables.proofs.Literals.{holds_pos, holds_alike}
@@ -34,10 +26,10 @@ use Rattle.settling.proofs.Bound.{Settled}
 use Rattle.circuits.proofs.Values.{rule_alike}
 use Rattle.circuits.proofs.Patterns.{Meets}
 use Rattle.circuits.proofs.Filled.{Within, bit_is, fill_other, fill_rules}
-use Rattle.circuits.proofs.Only.{NoOutput, fill_only}
-use Rattle.circuits.proofs.Asked.{gate_of_output, no_output, asked_is}
 use Rattle.circuits.proofs.Taken.{Taken, taken_is}
 use Rattle.circuits.proofs.Shared.{in_pattern_gate}
+use Rattle.circuits.proofs.Only.{NoOutput, fill_only}
+use Rattle.circuits.proofs.Asked.{gate_of_output, no_output, asked_is}
 
 -- The settled clauses hold exactly where the residue does and every taken gate's pattern does, since these are among them.
 split : (a : ℕ → Bool) (gs : List Gate) (cs : List (List ℕ)) → ((g : Gate) → Memᴰ g gs → found cs g ≡ true)
@@ -45,21 +37,22 @@ split : (a : ℕ → Bool) (gs : List Gate) (cs : List (List ℕ)) → ((g : Gat
 unfolding residue found
 split a gs cs there = (
   (λ h. (
-    mem-list_all (satisfies a) _ (λ c i. list_all-mem (satisfies a) cs h c (filter-mem _ cs c i).0),
-    λ g i. mem-list_all (satisfies a) g.pattern (λ c j. list_all-mem (satisfies a) cs h c (among-mem c cs (list_all-mem _ g.pattern (there g i) c j))),
+    mem-list_all (satisfies a) (filter (λ c. not (in_pattern gs c)) cs) (λ c i. list_all-mem (satisfies a) cs h c (filter-mem _ cs c i).0),
+    λ g i. mem-list_all (satisfies a) g.pattern (λ c j. list_all-mem (satisfies a) cs h c (among-mem c cs (list_all-mem (λ c. among c cs) g.pattern (there g i) c j))),
   )),
-  (λ h. mem-list_all (satisfies a) cs (λ c i. go c i (in_pattern gs c) refl h.0 h.1)),
+  (λ h. mem-list_all (satisfies a) cs (λ c i. ⊎_elim (in_gate c h.1) (in_residue c i h.0) (cases_Bool (in_pattern gs c)))),
 )
   where
-    go : (c : List ℕ) → Memᴰ c cs → (b : Bool) → in_pattern gs c ≡ b → list_all (satisfies a) (filter (λ c. not (in_pattern gs c)) cs) ≡ true
-        → ((g : Gate) → Memᴰ g gs → list_all (satisfies a) g.pattern ≡ true) → satisfies a c ≡ true
-    go c i true e r p = let (g, j, t) = in_pattern_gate gs c e in list_all-mem (satisfies a) g.pattern (p g j) c (among-mem c g.pattern t)
-    go c i false e r p = list_all-mem (satisfies a) _ r c (mem-filter (λ c. not (in_pattern gs c)) cs c i (ap not e))
+    in_gate : (c : List ℕ) → ((g : Gate) → Memᴰ g gs → list_all (satisfies a) g.pattern ≡ true) → in_pattern gs c ≡ true → satisfies a c ≡ true
+    in_gate c p e = let (g, j, t) = in_pattern_gate gs c e in list_all-mem (satisfies a) g.pattern (p g j) c (among-mem c g.pattern t)
+
+    in_residue : (c : List ℕ) → Memᴰ c cs → list_all (satisfies a) (filter (λ c. not (in_pattern gs c)) cs) ≡ true → in_pattern gs c ≡ false → satisfies a c ≡ true
+    in_residue c i r e = list_all-mem (satisfies a) _ r c (mem-filter (λ c. not (in_pattern gs c)) cs c i (ap not e))
 
 -- A filled-in row has n values, each 0 or 1.
 pub filled_long : (n : ℕ) (st : List ℕ) (gs : List Gate) (given : List ℕ) → length (filled n st gs given) ≡ n
 unfolding filled
-filled_long n st gs given = length-map (range_with_len 1 n) (λ v. bit (holds (valued (fill_gates gs given)) (stands st v))) ∙ length-range_with_len 1 n
+filled_long n st gs given = length-map-range_with_len (λ v. bit (holds (valued (fill_gates gs given)) (stands st v))) 1 n
 
 bit_low : (b : Bool) → bit b ≤ 1
 unfolding bit
@@ -69,18 +62,15 @@ bit_low false = omega arith
 pub filled_bits : (n : ℕ) (st : List ℕ) (gs : List Gate) (given : List ℕ) (x : ℕ) → Memᴰ x (filled n st gs given) → x ≤ 1
 unfolding filled
 filled_bits n st gs given x i =
-    let (v, j, e) = map-mem (λ v. bit (holds (valued (fill_gates gs given)) (stands st v))) (range_with_len 1 n) x i in
-    subst (λ y. y ≤ 1) (sym e) (bit_low (holds (valued (fill_gates gs given)) (stands st v)))
+    let (v, j, e) = Memᴰ.of_map (λ v. bit (holds (valued (fill_gates gs given)) (stands st v))) (range_with_len 1 n) i in
+    subst (λ y. y ≤ 1) e (bit_low (holds (valued (fill_gates gs given)) (stands st v)))
 
 -- A value 0 or 1 comes back from its truth.
 bit_back : (x : ℕ) → x ≤ 1 → bit (eqb x 1) ≡ x
 unfolding bit
 bit_back zero h = refl
 bit_back (suc zero) h = refl
-bit_back (suc (suc x)) h = absurd (no h)
-  where
-    no : suc (suc x) ≤ 1 → ⊥
-    no h = omega arith
+bit_back (suc (suc x)) h = absurd (omega arith)
 
 free_is : (st : List ℕ) (gs : List Gate) (v : ℕ) → Root st v → is_output gs v ≡ false → free st gs v ≡ true
 unfolding free root
@@ -122,10 +112,7 @@ module _ (n : ℕ) (st : List ℕ) (cs : List (List ℕ)) (set : Settled n st cs
     where
       go : (r : Bool) → eqb (stands st v) (2 * v) ≡ r → (f : Bool) → ltb (stands st v) 2 ≡ f → (o : Bool) → is_output gates v ≡ o
           → bit f + bit (not f && not r) + bit o + bit (r && not o) ≡ 1
-      go true e true k o q = absurd (never_both k (le-ltb (stands st v) 2 (high (eqb-true _ _ e))))
-        where
-          high : stands st v ≡ 2 * v → 2 ≤ stands st v
-          high w = omega arith
+      go true e true k o q = let w : stands st v ≡ 2 * v = eqb-true _ _ e in absurd (both_ways _ (le-ltb (stands st v) 2 (omega arith)) k)
       go true e false k true q = refl
       go true e false k false q = refl
       go false e f k true q = let (g, i, w) = gate_of_output gates v q in absurd (eqb-false (stands st v) (2 * v) e (subst (Root st) w (output_root g i)))
@@ -197,13 +184,9 @@ module _ (n : ℕ) (st : List ℕ) (cs : List (List ℕ)) (set : Settled n st cs
     -- What a fill writes, as an assignment.
     pub filled_value : (v : ℕ) → 1 ≤ v → v ≤ n → valued (filled n st gates given) v ≡ through v
     unfolding filled fill_gates through
-    filled_value zero h k = absurd (no h)
-      where
-        no : 1 ≤ 0 → ⊥
-        no h = omega arith
+    filled_value zero h k = absurd (omega arith)
     filled_value (suc v) h k =
-        let e : 1 + v ≡ suc v = omega arith in
-        ap (λ t. eqb t 1) (get_or-map-range_with_len (λ v. bit (holds end (stands st v))) 1 n v (1 + v) 0 (omega arith) refl ∙ ap (λ u. bit (holds end (stands st u))) e) ∙ bit_is (holds end (stands st (suc v)))
+        ap (λ t. eqb t 1) (get_or-map-range_with_len (λ v. bit (holds end (stands st v))) 1 n v (suc v) 0 (omega arith) (omega arith)) ∙ bit_is (holds end (stands st (suc v)))
 
     pub filled_alike : (ds : List (List ℕ)) → Inside n ds → satisfies_all (valued (filled n st gates given)) ds ≡ satisfies_all through ds
     filled_alike ds inside = alikes_hold (valued (filled n st gates given)) through ds (λ c i l k. let (lo, hi) = inside c i l k in filled_value (var l) lo hi)
@@ -212,10 +195,10 @@ module _ (n : ℕ) (st : List ℕ) (cs : List (List ℕ)) (set : Settled n st cs
     pub filled_row : (values : List ℕ) → length values ≡ n → ((v : ℕ) → Memᴰ v values → v ≤ 1) → ((v : ℕ) → 1 ≤ v → v ≤ n → through v ≡ valued values v) → filled n st gates given ≡ values
     unfolding filled fill_gates through
     filled_row values size bits same =
-        ext_get_or 0 (filled n st gates given) values (length-map (range_with_len 1 n) (λ v. bit (holds end (stands st v))) ∙ length-range_with_len 1 n ∙ sym size)
-        (λ i h. let k : i < n = rw (length-map (range_with_len 1 n) (λ v. bit (holds end (stands st v))) ∙ length-range_with_len 1 n) at h in
-        let e : 1 + i ≡ suc i = omega arith in
-        get_or-map-range_with_len (λ v. bit (holds end (stands st v))) 1 n i (1 + i) 0 k refl ∙ ap (λ u. bit (holds end (stands st u))) e ∙ ap bit (same (suc i) (omega arith) (omega arith))
+        let long : length (filled n st gates given) ≡ n = filled_long n st gates given in
+        ext_get_or 0 (filled n st gates given) values (long ∙ sym size)
+        (λ i h. let k : i < n = rw long at h in
+        get_or-map-range_with_len (λ v. bit (holds end (stands st v))) 1 n i (suc i) 0 k (omega arith) ∙ ap bit (same (suc i) (omega arith) (omega arith))
         ∙ bit_back (get_or values i 0) (bits (get_or values i 0) (get_or-mem values i 0 (omega arith))))
 
     -- Asking gives the filled-in value.

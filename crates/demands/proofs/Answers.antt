@@ -1,14 +1,6 @@
 -- The proofs of the statements in specs/Answers.
-use Prim.Native.Nat.{ℕ}
-use mathlib.Core.Path.{◌≡◌, refl, sym, ap, ◌∙◌}
-use Rattle.std.specs.Prelude.{Ok, Err}
-use mathlib.Core.Bool.{Bool, true, false, not}
-use mathlib.Core.List.{List, [], ◌∷◌, Memᴰ}
-use mathlib.Core.Logic.{⊎_elim}
-use native.Mathlib.Omega.{arith}
-use lib.IntN.{ℤ}
-use lib.ListN.{length}
-use lib.Dec.{ltb}
+use Rattle.std.proofs.Common.{◌≡◌, ℕ, Bool, true, false, not, ltb, List, [], ◌∷◌, length, ℤ, Ok, Err, sym, refl, ap, ◌∙◌, ⊎_elim, arith}
+use mathlib.Core.List.{Memᴰ}
 use Rattle.std.specs.List.{list_all}
 use Rattle.ways.proofs.Rows.{list_all-not}
 use Rattle.tables.specs.Numbers.{Verdict, number_of, place_of, answer_place, refuse, first_refusal}

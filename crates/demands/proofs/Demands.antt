@@ -1,19 +1,14 @@
 -- The proofs of the statements in specs/Demands.
-use Prim.Native.Nat.{ℕ, zero, suc, ◌*◌, ◌≤◌, ◌<◌}
-use mathlib.Core.Path.{◌≡◌, refl, sym, ap, ◌∙◌, subst}
-use mathlib.Core.Bool.{Bool, true, false, ◌&&◌, beq}
-use mathlib.Core.List.{List, Memᴰ}
-use Rattle.std.specs.List.{flat_map}
-use mathlib.Core.Logic.{◌↔◌}
-use native.Mathlib.Omega.{arith}
-use lib.IntN.{ℤ}
-use lib.ListN.{length, get_or-eq_default}
-use lib.Dec.{ltb}
-use borrow.Author.Tests.{eq-eqb, ltb-true, ltb-false}
-use Rattle.std.specs.List.{list_any, list_all, range_with_len}
+use Rattle.std.proofs.Common.{◌≡◌, ℕ, zero, suc, ◌*◌, ◌<◌, ◌≤◌, Bool, true, false, ◌&&◌, List, length, ℤ, flat_map, sym, refl, ap, ◌∙◌, subst, ⊎_elim, arith, eq-eqb}
+use mathlib.Core.List.{Memᴰ}
+use Rattle.std.specs.Cmp.{booleans_Decides}
+use Rattle.std.specs.List.{list_all, range_with_len}
+use Rattle.std.proofs.Math.Bool.{beq}
+use Rattle.std.proofs.lemmas.Bool.{and_from, and_parts, false_from_ne_true, both_ways, cases_lt}
+use Rattle.std.proofs.lemmas.Bool.Decides.{same_from_decides}
+use Rattle.std.proofs.lemmas.List.{get_or_past}
 use Rattle.ways.specs.Ways.{among}
-use Rattle.std.proofs.lemmas.Bool.{and_from, and_parts, false_from_ne_true}
-use Rattle.ways.proofs.Bools.{agree, never_both}
+use Rattle.ways.proofs.Bools.{agree}
 use Rattle.ways.proofs.Rows.{list_all-mem, mem-list_all, mem-list_any, filter-mem}
 use Rattle.ways.proofs.Members.{among-mem, mem-range, flat_mem, mem-among}
 use Rattle.tables.specs.Literal.{holds, valued}
@@ -31,47 +26,33 @@ use Rattle.settling.proofs.Links.{Agrees}
 use Rattle.settling.proofs.Bound.{Settled}
 use Rattle.circuits.proofs.Patterns.{Meets}
 use Rattle.circuits.proofs.Levels.{level_is, level_rises, levels_low}
-use Rattle.circuits.proofs.Shared.{shared_once, give_back, residue_apart}
 use Rattle.circuits.proofs.Taken.{Taken}
+use Rattle.circuits.proofs.Shared.{shared_once, give_back, residue_apart}
 use Rattle.circuits.proofs.Whole.{settled_inside, are_taken, gates_within, one_part, through, through_zero, through_agrees, through_meets, through_free, filled_holds, through_is, filled_long, filled_bits, filled_value, filled_alike, filled_row, asked_value}
 use Rattle.demands.specs.Evening.{Settles}
 use Rattle.demands.specs.Demands.{agrees, SettlingExact, RoundsBounded, RefusalBounded, LinksToRoots, OnePart, LevelsRise, NoneShared, PatternSays, GiveBack, FilledSatisfies, OwnFilling, OthersIgnored, NonePossible, AskedIsFilled}
 use Rattle.demands.proofs.Settled.{lent_inside, impossible_ends, impossible_means, settled_ends, settled_means}
-
--- Tests that agree, as an equation.
-beq_of : (p q : Bool) → p ≡ q → beq p q ≡ true
-beq_of true true e = refl
-beq_of true false e = sym e
-beq_of false true e = e
-beq_of false false e = refl
-
-of_beq : (p q : Bool) → beq p q ≡ true → p ≡ q
-of_beq true true e = refl
-of_beq true false e = sym e
-of_beq false true e = e
-of_beq false false e = refl
 
 zero_value : (values : List ℕ) → valued values 0 ≡ false
 zero_value values = refl
 
 stands_beyond : (n : ℕ) (st : List ℕ) → length st ≡ suc n → (u : ℕ) → n < u → stands st u ≡ 2 * u
 unfolding stands
-stands_beyond n st e u h = get_or-eq_default st (2 * u) (rw e (omega arith))
+stands_beyond n st e u h = get_or_past st u (2 * u) (rw e (omega arith))
 
 module _ (n : ℕ) (st : List ℕ) (cs : List (List ℕ)) (set : Settled n st cs) (values : List ℕ) where
   -- Agreement on the variables 1 to n is agreement on all: 0 and what is beyond n stand for themselves.
   all_agree : list_all (agrees st values) (range_with_len 1 n) ≡ true → Agrees (valued values) st
   unfolding agrees
   all_agree e zero = ap (holds (valued values)) set.good.none ∙ holds_pos (valued values) 0
-  all_agree e (suc v) = go (ltb n (suc v)) refl
-    where
-      go : (b : Bool) → ltb n (suc v) ≡ b → holds (valued values) (stands st (suc v)) ≡ valued values (suc v)
-      go true h = ap (holds (valued values)) (stands_beyond n st set.good.size (suc v) (ltb-true n (suc v) h)) ∙ holds_pos (valued values) (suc v)
-      go false h = sym (of_beq _ _ (list_all-mem (agrees st values) (range_with_len 1 n) e (suc v) (mem-range 1 n (suc v) (omega arith) (let k = ltb-false n (suc v) h in omega arith))))
+  all_agree e (suc v) =
+      ⊎_elim (λ h. ap (holds (valued values)) (stands_beyond n st set.good.size (suc v) h) ∙ holds_pos (valued values) (suc v))
+      (λ h. sym ((booleans_Decides _ _).0 (list_all-mem (agrees st values) (range_with_len 1 n) e (suc v) (mem-range 1 n (suc v) (omega arith) (omega arith)))))
+      (cases_lt n (suc v))
 
   agree_all : Agrees (valued values) st → list_all (agrees st values) (range_with_len 1 n) ≡ true
   unfolding agrees
-  agree_all h = mem-list_all (agrees st values) (range_with_len 1 n) (λ v i. beq_of _ _ (sym (h v)))
+  agree_all h = mem-list_all (agrees st values) (range_with_len 1 n) (λ v i. (booleans_Decides _ _).1 (sym (h v)))
 
 pub settling_exact : SettlingExact
 settling_exact n t pins r st cs s values =
@@ -120,15 +101,11 @@ unfolding taken
 none_shared n t pins r st cs s c =
     let k = are_taken n st cs (set n t pins r st cs s) (allowed n) (strict n) in shared_once k.order (λ g i. (k.valid g i).speaks) c
 
--- "exactly when", from both directions to an equation.
-exactly : (p v w : Bool) → (p ≡ true) ↔ (v ≡ w) → p ≡ beq v w
-exactly p v w h = agree p (beq v w) (λ e. beq_of v w (h.0 e)) (λ e. h.1 (of_beq v w e))
-
 pub pattern_says : PatternSays
 unfolding taken
 pattern_says n t pins r st cs s g i a =
     let v = (are_taken n st cs (set n t pins r st cs s) (allowed n) (strict n)).valid g i in
-    ap (satisfies_all a) v.written ∙ exactly _ (a g.output) (rule g.kind a g.inputs) (v.meets a)
+    ap (satisfies_all a) v.written ∙ same_from_decides _ (beq (a g.output) (rule g.kind a g.inputs)) (v.meets a) (booleans_Decides (a g.output) (rule g.kind a g.inputs))
 
 pub give_back_exact : GiveBack
 unfolding taken in_pattern
@@ -145,11 +122,8 @@ give_back_exact n t pins r st cs s c =
     apart e =
         let (g, i, j) = flat_mem written_out gs c (among-mem c _ (and_parts (among c (flat_map written_out gs)) (among c (residue gs cs)) e).0) in
         let left = among-mem c (residue gs cs) (and_parts (among c (flat_map written_out gs)) (among c (residue gs cs)) e).1 in
-        never_both (mem-list_any (λ h. among c h.pattern) gs g i (mem-among c g.pattern (subst (Memᴰ c) (k.valid g i).written j)))
-        (apart_of (residue_apart gs cs (λ g i. (k.valid g i).there) (λ g i. (k.valid g i).written) c left))
-      where
-        apart_of : in_pattern gs c ≡ false → list_any (λ h. among c h.pattern) gs ≡ false
-        apart_of q = q
+        both_ways (in_pattern gs c) (residue_apart gs cs (λ g i. (k.valid g i).there) (λ g i. (k.valid g i).written) c left)
+        (mem-list_any (λ h. among c h.pattern) gs g i (mem-among c g.pattern (subst (Memᴰ c) (k.valid g i).written j)))
 
 -- Demand 3.
 module _ (n : ℕ) (t pins : List ℤ) (r : ℕ) (st : List ℕ) (cs : List (List ℕ)) (s : Settles n t pins r st cs) (given : List ℕ) (long : n ≤ length given) where

@@ -4,3 +4,4 @@ pub mod Verdicts
 pub mod Demands
 pub mod Night
 pub mod Answers
+pub mod Texts

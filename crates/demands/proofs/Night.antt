@@ -1,20 +1,12 @@
 -- The proofs of the statements in specs/Night: the book holds what the stack holds, and nothing else decides a build.
-use Prim.Native.Nat.{ℕ, ◌+◌, ◌-◌, ◌≤◌, ◌<◌}
-use mathlib.Core.Path.{◌≡◌, refl, sym, ap, ◌∙◌}
-use mathlib.Core.Bool.{Bool, true, false}
-use mathlib.Core.List.{List, [], ◌∷◌, ◌++◌, Memᴰ}
-use native.Mathlib.Omega.{arith}
-use native.Mathlib.Numerals.{add-one}
-use lib.IntN.{ℤ, pos}
-use lib.ListN.{length, take, length-set, length-replicate, length-append}
-use lib.Seq.{length-take-le, take-suc-set, take-set-le, take-take, take-append_seam}
-use lib.Dec.{eqb, leb, ltb}
-use borrow.Author.Tests.{eqb-false, ne_eqb, leb-false, le-ltb}
-use Rattle.std.specs.List.{fold}
+use Rattle.std.proofs.Common.{◌≡◌, ℕ, ◌+◌, ◌-◌, ◌<◌, ◌≤◌, Bool, true, false, eqb, ltb, leb, List, [], ◌∷◌, ◌++◌, length, take, ℤ, pos, Ok, Err, fold, Result, sym, refl, ap, ◌∙◌, add-one, arith, length-append, length-set, length-take-le, take-take, take-suc-set, le-ltb, ne_eqb, leb-false}
+use mathlib.Core.List.{Memᴰ}
+use Rattle.std.specs.Result.{result_and}
+use Rattle.std.proofs.Math.Seq.{take-append_seam}
+use Rattle.std.proofs.lemmas.Bool.{eqb-false}
+use Rattle.std.proofs.lemmas.List.{length-replicate, take-set-le}
 use Rattle.std.proofs.lemmas.List.Sums.{fold-append}
 use Rattle.ways.proofs.Runs.{fold_keeps}
-use Rattle.std.specs.Prelude.{Result, Ok, Err}
-use Rattle.std.specs.Result.{result_and}
 use Rattle.tables.specs.Numbers.{Verdict, refuse, first_refusal}
 use Rattle.tables.specs.declared.numbers.Refusal.{Refusal}
 use Rattle.tables.specs.declared.numbers.Refusal.TheVariants.{BookFull, NothingHeld}
@@ -134,11 +126,8 @@ stack_decides ms ks e n t work buffer =
 -- What is laid on top and taken away leaves the stack as it was.
 off_again : (s : List ℤ) (x : ℤ) → take (length (s ++ (x ∷ [])) - 1) (s ++ (x ∷ [])) ≡ s
 off_again s x =
-    let e : length (s ++ (x ∷ [])) - 1 ≡ length s = minus (length-append s (x ∷ [])) in
+    let e : length (s ++ (x ∷ [])) - 1 ≡ length s = omega (arith, length-append s (x ∷ [])) in
     rw e (take-append_seam s (x ∷ []))
-  where
-    minus : length (s ++ (x ∷ [])) ≡ length s + 1 → length (s ++ (x ∷ [])) - 1 ≡ length s
-    minus q = omega arith
 
 back_accepts : (c : Book) → (c.held ≡ 0 → ⊥) → c.held ≤ 64 → take_back c ≡ Ok (without_last c)
 unfolding take_back book_long first_refusal refuse
@@ -157,7 +146,7 @@ pub take_back_undoes : TakeBackUndoes
 unfolding after
 take_back_undoes ms n t work x b e =
     ap (λ (d : Desk). d.stack) (fold-append move opening ms (put n t work x ∷ back ∷ []))
-    ∙ back_stack d' _ (back_accepts d'.book (λ z. no (h.count ∙ ap length on) z) h.few) ∙ ap (λ s. take (length s - 1) s) on ∙ off_again d.stack x
+    ∙ back_stack d' _ (back_accepts d'.book (λ z. let p = h.count ∙ ap length on in omega (arith, p, length-append d.stack (x ∷ []))) h.few) ∙ ap (λ s. take (length s - 1) s) on ∙ off_again d.stack x
   where
     d : Desk
     d = fold move opening ms
@@ -170,6 +159,3 @@ take_back_undoes ms n t work x b e =
 
     on : d'.stack ≡ d.stack ++ (x ∷ [])
     on = put_stack d n t work x b e
-
-    no : d'.book.held ≡ length (d.stack ++ (x ∷ [])) → d'.book.held ≡ 0 → ⊥
-    no p z = omega (arith, length-append d.stack (x ∷ []))

@@ -1,17 +1,10 @@
 -- What an evening that is settled gives to all the proofs: clauses of the variables 1 to n, the invariant of the rounds, and the
 -- meaning of what is settled.
-use Prim.Native.Nat.{ℕ, ◌+◌, ◌≤◌, ◌<◌}
-use mathlib.Core.Path.{◌≡◌, sym, subst}
-use mathlib.Core.Bool.{Bool, true, false, not}
+use Rattle.std.proofs.Common.{◌≡◌, ℕ, ◌+◌, ◌<◌, ◌≤◌, Bool, true, false, not, eqb, ltb, ◌↔◌, List, [], ◌∷◌, ℤ, sym, subst, ⊎_elim, ltb-false}
 use mathlib.Core.List.Memᴰ
-use mathlib.Core.List.{List, [], ◌∷◌, Memᴰ}
-use mathlib.Core.Logic.{⊎_elim, ◌↔◌}
-use lib.IntN.{ℤ}
-use lib.Dec.{eqb, ltb}
-use borrow.Author.Tests.{eqb-false, ltb-false, not-true}
-use Rattle.std.proofs.lemmas.Bool.{or_parts}
+use mathlib.Core.List.{Memᴰ}
+use Rattle.std.proofs.lemmas.Bool.{eqb-false, not-true, or_parts}
 use Rattle.ways.proofs.Rows.{list_all-mem}
-use Rattle.ways.proofs.Members.{map-mem}
 use Rattle.tables.specs.Literal.{literal, var}
 use Rattle.tables.specs.Clause.{clauses, satisfies_all}
 use Rattle.tables.proofs.Literals.{var_one, literal_one}
@@ -34,8 +27,8 @@ unfolding pinned
 lent_inside n t pins h c i l k =
     ⊎_elim
     (λ j. accepted_inside n t h.good c j l k)
-    (λ j. let (x, o, q) = map-mem (λ p. literal p ∷ []) pins c j in
-    subst (λ y. (1 ≤ var y) × (var y ≤ n)) (sym (Memᴰ.eq_of_singleton (subst (Memᴰ l) q k)))
+    (λ j. let (x, o, q) = Memᴰ.of_map (λ p. literal p ∷ []) pins j in
+    subst (λ y. (1 ≤ var y) × (var y ≤ n)) (sym (Memᴰ.eq_of_singleton (subst (Memᴰ l) (sym q) k)))
     (pin_inside n x (not-true (out_of_range n x) (list_all-mem (λ x. not (out_of_range n x)) pins h.in_range x o))))
     (Memᴰ.append_cases (clauses t) i)
 

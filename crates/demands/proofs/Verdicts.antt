@@ -1,9 +1,7 @@
 -- Tests in their order: where all accept, each does; where one refuses, it is one of them.
-use Rattle.std.proofs.Common.{◌≡◌, refl, sym, ap, Bool, true, false, List, [], ◌∷◌}
+use Rattle.std.proofs.Common.{◌≡◌, Bool, true, false, List, [], ◌∷◌, is_ok, Ok, Err, Result, sym, refl, ap, true≢false}
 use mathlib.Core.List.{Memᴰ}
-use Rattle.std.specs.Prelude.{Result, Ok, Err, is_ok}
 use Rattle.std.specs.Result.{result_and}
-use Rattle.std.proofs.lemmas.Bool.{true≢false}
 use Rattle.tables.specs.Numbers.{Verdict, number_of, answer_number, refuse, first_refusal}
 use Rattle.tables.specs.declared.numbers.Refusal.{Refusal}
 

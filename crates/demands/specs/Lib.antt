@@ -3,3 +3,4 @@ pub mod Evening
 pub mod Demands
 pub mod Night
 pub mod Answers
+pub mod Texts

@@ -7,8 +7,7 @@ use Prim.Native.String.{String}
 use Rattle.ways.specs.Ways.{same}
 use Rattle.tables.specs.Sizes.{most_bytes, work_room}
 use Rattle.tables.specs.Numbers.{refuse, first_refusal}
-use Rattle.tables.specs.Literal.{literal, var, neg, entry, opp, holds, valued}
-use Rattle.tables.specs.Clause.{clauses_from, clauses, void, satisfies, satisfies_all}
+use Rattle.tables.specs.Clause.{clauses_from, clauses}
 use Rattle.tables.specs.Check.{check_from, checked}
 use Rattle.texts.specs.Buffer.{front, leaves}
 use Rattle.texts.specs.Bytes.{blank, solid, feed}
@@ -18,7 +17,7 @@ use Rattle.texts.specs.Header.{remarks, no_more, size_c, size_v, word_cnf, word_
 use Rattle.texts.specs.Body.{judged_number, body_from, entry_of}
 use Rattle.texts.specs.Reading.{behind, judged, verdict, roomed, reading, row_after}
 use Rattle.texts.specs.Decimal.{digits_of, decimal, signed}
-use Rattle.rules.specs.Forced.{marked, forces, force_at, force_in, pass, forced, clash, empty, contradicts}
+use Rattle.rules.specs.Forced.{forces, force_at, force_in, pass, forced, clash, empty, contradicts}
 use Rattle.rules.specs.Clean.{insert, tidy_step, tidy, add, clean_step, clean}
 use Rattle.rules.specs.Pairs.{pairs, stands, replace, alone, starting, give_way, meet, join, leaders, torn, fixed, root, linked}
 use Rattle.rules.specs.Rounds.{paired, cleaned, round, after, rounds, outcome, pinned}
@@ -146,5 +145,5 @@ right (lent n t ms prints) = same (shown n t empty_book ++ night n t empty_book 
 right (text source prints) = same (program (codes source)) (codes prints)
 
 pub all_right : list_all right evenings ≡ true
-unfolding refuse first_refusal evenings right night moved answers shown clauses_from clauses check_from checked front blank solid feed tokens_from digits natural plain minus number remarks no_more size_c size_v word_cnf word_p header_at header judged_number body_from entry_of behind judged verdict roomed reading row_after digits_of decimal signed marked forces force_at force_in pass forced clash empty contradicts insert tidy_step tidy add clean_step clean pairs stands replace alone starting give_way meet join leaders torn fixed root linked paired cleaned round after rounds outcome pinned kinds no_kind kind_row signs and_kind parity_kind rule others side and_inputs and_form signings odd group parity first_of anchors found candidates touched depend_step dependents is_output allowed place take_first take_at taken_by taken in_pattern residue free highest level_step levels bit fill_step fill_gates filled ask_root asked line line_b line_f line_l input_field line_g gates_at lines_g line_v line_r listing line_x in_force empty_book out_of_range with_pin without_last book_long take_back work_short held_bad outcome_of contradiction rounds_in stands_in gates_in listed leaves wiped build_verdict build build_listing bad_values bad_value fill_verdict fill_values ask_verdict ask pin_verdict pin printed program_on program mathlib.Core.Bool.xor
+unfolding refuse first_refusal evenings right night moved answers shown clauses_from clauses check_from checked front blank solid feed tokens_from digits natural plain minus number remarks no_more size_c size_v word_cnf word_p header_at header judged_number body_from entry_of behind judged verdict roomed reading row_after digits_of decimal signed forces force_at force_in pass forced clash empty contradicts insert tidy_step tidy add clean_step clean pairs stands replace alone starting give_way meet join leaders torn fixed root linked paired cleaned round after rounds outcome pinned kinds no_kind kind_row signs and_kind parity_kind rule others side and_inputs and_form signings odd group parity first_of anchors found candidates touched depend_step dependents is_output allowed place take_first take_at taken_by taken in_pattern residue free highest level_step levels bit fill_step fill_gates filled ask_root asked line line_b line_f line_l input_field line_g gates_at lines_g line_v line_r listing line_x in_force empty_book out_of_range with_pin without_last book_long take_back work_short held_bad outcome_of contradiction rounds_in stands_in gates_in listed leaves wiped build_verdict build build_listing bad_values bad_value fill_verdict fill_values ask_verdict ask pin_verdict pin printed program_on program mathlib.Core.Bool.xor
 all_right = refl

@@ -6,7 +6,7 @@ use Rattle.std.specs.Fn.{iterate}
 use Rattle.tables.specs.Literal.{opp}
 use Rattle.tables.specs.Clause.{void}
 
-unfoldable pub marked : List ℕ → ℕ → Bool
+abbrev pub marked : List ℕ → ℕ → Bool
 marked m l = eqb (get_or m l 0) 1
 
 -- "Forced literals: the least set such that a literal of a non-void clause is in it when the opposites of all the clause's

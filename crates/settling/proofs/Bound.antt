@@ -1,51 +1,38 @@
 -- Each round that goes on leaves fewer roots: so n + 1 rounds are enough, and what they leave is settled.
-use Prim.Native.Nat.{ℕ, zero, suc, ◌+◌, ◌*◌, ◌≤◌, ◌<◌}
-use mathlib.Core.Path.{◌≡◌, refl, sym, ap, ◌∙◌, subst}
-use mathlib.Core.Bool.{Bool, true, false, cond, ◌&&◌}
-use mathlib.Core.List.{List, [], ◌∷◌, map, Memᴰ}
-use mathlib.Core.Logic.{⊎_elim}
-use native.Mathlib.Omega.{arith}
-use lib.ListN.{length, get_or, length-map}
-use lib.Dec.{eqb, ltb, eqb-suc-zero}
-use borrow.Author.Tests.{eqb-true, eqb-false, eq-eqb}
-use Rattle.std.specs.List.{fold, list_any, filter, range_with_len}
-use Rattle.ways.specs.Ways.{among}
-use Rattle.std.proofs.lemmas.Bool.{and_parts}
-use Rattle.std.proofs.lemmas.List.{get_or-map}
+use Rattle.std.proofs.Common.{◌≡◌, ℕ, zero, suc, ◌+◌, ◌*◌, ◌<◌, ◌≤◌, Bool, true, false, ◌&&◌, eqb, List, [], ◌∷◌, map, length, get_or, fold, filter, sym, refl, ap, ◌∙◌, subst, ⊎_elim, arith, eq-eqb, eqb-true}
+use mathlib.Core.List.{Memᴰ}
+use Rattle.std.specs.List.{range_with_len}
+use Rattle.std.proofs.lemmas.Bool.{and_parts, cases_eq, false_from_ne_true, both_ways}
+use Rattle.std.proofs.lemmas.List.{length-map, get_or-map}
 use Rattle.std.proofs.lemmas.List.FromFn.{length-range_with_len}
+use Rattle.std.proofs.lemmas.List.Sums.{length-filter, count_by-le-length}
+use Rattle.ways.specs.Ways.{among}
 use Rattle.ways.proofs.Bools.{clash_of}
 use Rattle.ways.proofs.Runs.{fold_keeps}
 use Rattle.ways.proofs.Rows.{filter-mem}
 use Rattle.ways.proofs.Members.{mem-range, get_or-mem}
-use Rattle.ways.proofs.Counts.{filter-le, count_less}
+use Rattle.ways.proofs.Counts.{count_less}
 use Rattle.tables.specs.Literal.{var, opp}
-use Rattle.tables.proofs.Literals.{var_pos, var-opp, same_var}
+use Rattle.tables.proofs.Literals.{var_pos, var-opp}
 use Rattle.tables.proofs.Checked.{Inside}
-use Rattle.rules.specs.Forced.{forced, contradicts}
-use Rattle.rules.specs.Pairs.{pairs, stands, replace, give_way, meet, join, starting, leaders, torn, root}
-use Rattle.rules.specs.Rounds.{Round, stuck, ended, goes_on, paired, cleaned, round, Outcome, impossible, settled, after, rounds, outcome}
+use Rattle.rules.specs.Forced.{forced}
+use Rattle.rules.specs.Pairs.{pairs, stands, replace, give_way, meet, join, starting, leaders, root}
+use Rattle.rules.specs.Rounds.{Round, stuck, ended, goes_on, round, Outcome, impossible, settled, after, rounds, outcome}
 use Rattle.settling.proofs.Proper.{Distinct, more, Proper, rising_distinct, clean_proper}
-use Rattle.settling.proofs.Roots.{Root, replace_pos, var-replace, way_other}
-use Rattle.settling.proofs.Round.{Good, Live, ds, s, s₀, st', new_at, roots_inv, s_size, ds_live, next_good, last_good}
+use Rattle.settling.proofs.Links.{starting_size, meet_cases}
+use Rattle.settling.proofs.Roots.{Root, replace_pos, var-replace, way_other, way_var}
+use Rattle.settling.proofs.Round.{Good, Live, ds, s, s₀, st', new_at, roots_inv, round_cases, ds_live, next_good, last_good}
 use Rattle.settling.proofs.Models.{first_good}
 
 -- merging looks at variables only
 module _ (lo hi : ℕ) where
   way_hit : (l : ℕ) → var l ≡ var hi → var (give_way lo hi l) ≡ var lo
-  unfolding give_way
-  way_hit l e = go (eqb l hi) refl (eqb l (opp hi)) refl
-    where
-      go : (b : Bool) → eqb l hi ≡ b → (c : Bool) → eqb l (opp hi) ≡ c → var (cond b lo (cond c (opp lo) l)) ≡ var lo
-      go true p c q = refl
-      go false p true q = var-opp lo
-      go false p false q = absurd (⊎_elim (eqb-false l hi p) (eqb-false l (opp hi) q) (same_var l hi e))
+  way_hit l e = ⊎_elim (λ h. h) (λ h. absurd (h.1 e)) (way_var lo hi l)
 
   way_same : (k l : ℕ) → var k ≡ var l → var (give_way lo hi k) ≡ var (give_way lo hi l)
-  way_same k l e = go (eqb (var l) (var hi)) refl
-    where
-      go : (b : Bool) → eqb (var l) (var hi) ≡ b → var (give_way lo hi k) ≡ var (give_way lo hi l)
-      go true q = let h = eqb-true _ _ q in way_hit k (e ∙ h) ∙ sym (way_hit l h)
-      go false q = let h = eqb-false _ _ q in ap var (way_other lo hi k (λ w. h (sym e ∙ w))) ∙ e ∙ sym (ap var (way_other lo hi l h))
+  way_same k l e =
+      ⊎_elim (λ h. way_hit k (e ∙ h) ∙ sym (way_hit l h)) (λ h. ap var (way_other lo hi k (λ w. h (sym e ∙ w))) ∙ e ∙ sym (ap var (way_other lo hi l h)))
+      (cases_eq (var l) (var hi))
 
 -- u and v stand for literals of one variable
 abbrev Same : List ℕ → ℕ → ℕ → Type 0
@@ -57,31 +44,18 @@ module _ (u v : ℕ) (s : List ℕ) (lu : u < length s) (lv : v < length s) wher
   map_same f e = ap var (get_or-map f s u (2 * u) (2 * u) lu) ∙ e ∙ ap var (sym (get_or-map f s v (2 * v) (2 * v) lv))
 
   meet_same : (p q : ℕ) → Same s u v → Same (meet p q s) u v
-  unfolding meet
-  meet_same p q e = go (eqb (var p) (var q)) (ltb (var p) (var q))
-    where
-      go : (b c : Bool) → Same (cond b s (cond c (map (give_way p q) s) (map (give_way q p) s))) u v
-      go true c = e
-      go false true = map_same (give_way p q) (way_same p q (stands s u) (stands s v) e)
-      go false false = map_same (give_way q p) (way_same q p (stands s u) (stands s v) e)
+  meet_same p q e =
+      meet_cases p q s (λ r. Same r u v) (λ k. e) (λ l. map_same (give_way p q) (way_same p q (stands s u) (stands s v) e))
+      (λ l. map_same (give_way q p) (way_same q p (stands s u) (stands s v) e))
 
   meet_joins : (p q : ℕ) → var p ≡ var (stands s u) → var q ≡ var (stands s v) → Same (meet p q s) u v
-  unfolding meet
-  meet_joins p q e f = go (eqb (var p) (var q)) refl (ltb (var p) (var q))
-    where
-      go : (b : Bool) → eqb (var p) (var q) ≡ b → (c : Bool) → Same (cond b s (cond c (map (give_way p q) s) (map (give_way q p) s))) u v
-      go true k c = sym e ∙ eqb-true _ _ k ∙ f
-      go false k true = let n = eqb-false _ _ k in map_same (give_way p q) (ap var (way_other p q (stands s u) (λ w. n (e ∙ w))) ∙ sym e ∙ sym (way_hit p q (stands s v) (sym f)))
-      go false k false = let n = eqb-false _ _ k in map_same (give_way q p) (way_hit q p (stands s u) (sym e) ∙ f ∙ sym (ap var (way_other q p (stands s v) (λ w. n (sym w ∙ sym f)))))
+  meet_joins p q e f =
+      meet_cases p q s (λ r. Same r u v) (λ k. sym e ∙ k ∙ f)
+      (λ l. map_same (give_way p q) (ap var (way_other p q (stands s u) (λ w. omega (arith, l, e, w))) ∙ sym e ∙ sym (way_hit p q (stands s v) (sym f))))
+      (λ l. map_same (give_way q p) (way_hit q p (stands s u) (sym e) ∙ f ∙ sym (ap var (way_other q p (stands s v) (λ w. omega (arith, l, f, w))))))
 
 meet_size : (p q : ℕ) (s : List ℕ) → length (meet p q s) ≡ length s
-unfolding meet
-meet_size p q s = go (eqb (var p) (var q)) (ltb (var p) (var q))
-  where
-    go : (b c : Bool) → length (cond b s (cond c (map (give_way p q) s) (map (give_way q p) s))) ≡ length s
-    go true c = refl
-    go false true = length-map s (give_way p q)
-    go false false = length-map s (give_way q p)
+meet_size p q s = meet_cases p q s (λ r. length r ≡ length s) (λ e. refl) (λ l. length-map s (give_way p q)) (λ l. length-map s (give_way q p))
 
 -- the variables of a pair end in one class
 run_joins : (t c : List ℕ) (ps : List (List ℕ)) → var (get_or c 0 0) < length t → var (get_or c 1 0) < length t
@@ -102,14 +76,8 @@ run_joins t c ps lx ly =
 -- the two literals of a pair differ
 differ : (c : List ℕ) → length c ≡ 2 → Distinct c → get_or c 0 0 ≡ get_or c 1 0 → ⊥
 differ (x ∷ y ∷ c) l (more h d) e = h (Memᴰ.head e)
-differ (x ∷ []) l d e = no l
-  where
-    no : suc zero ≡ 2 → ⊥
-    no l = omega arith
-differ [] l d e = no l
-  where
-    no : zero ≡ 2 → ⊥
-    no l = omega arith
+differ (x ∷ []) l d e = absurd (omega arith)
+differ [] l d e = absurd (omega arith)
 
 -- how many roots there are
 pub roots : ℕ → List ℕ → ℕ
@@ -123,33 +91,29 @@ is_root : (st : List ℕ) (v : ℕ) → Root st v → root st v ≡ true
 unfolding root
 is_root st v e = eq-eqb _ _ e
 
-module _ (n : ℕ) (st : List ℕ) (cs : List (List ℕ)) (good : Good n st cs) (proper : (c : List ℕ) → Memᴰ c (ds n st cs good) → Proper c) where
+module _ (n : ℕ) (st : List ℕ) (cs : List (List ℕ)) (good : Good n st cs) (proper : (c : List ℕ) → Memᴰ c (ds n st cs) → Proper c) where
   -- a root after the round was one before, and stands for itself in the merges
-  was_root : (u : ℕ) → Root (st' n st cs good) u → Root st u
+  was_root : (u : ℕ) → Root (st' n st cs) u → Root st u
   was_root u e =
-      let S = s n st cs good in let w = var (stands st u) in
+      let S = s n st cs in let w = var (stands st u) in
       let q : var (stands S w) ≡ u = sym (var-replace S (stands st u)) ∙ ap var (sym (new_at n st cs good u) ∙ e) ∙ var_pos u in
       subst (Root st) q ((roots_inv n st cs good).inside w (good.rooted u))
 
-  self_led : (u : ℕ) → Root (st' n st cs good) u → Root (s n st cs good) u
-  self_led u e = sym (replace_pos (s n st cs good) u) ∙ ap (replace (s n st cs good)) (sym (was_root u e)) ∙ sym (new_at n st cs good u) ∙ e
+  self_led : (u : ℕ) → Root (st' n st cs) u → Root (s n st cs) u
+  self_led u e = sym (replace_pos (s n st cs) u) ∙ ap (replace (s n st cs)) (sym (was_root u e)) ∙ sym (new_at n st cs good u) ∙ e
 
-  gone : (z : ℕ) → 1 ≤ z → z ≤ n → Root st z → root (s n st cs good) z ≡ false → roots n (st' n st cs good) < roots n st
+  gone : (z : ℕ) → 1 ≤ z → z ≤ n → Root st z → root (s n st cs) z ≡ false → roots n (st' n st cs) < roots n st
   unfolding roots
   gone z lo hi r e =
-      count_less (root st) (root (st' n st cs good)) (λ v h. is_root st v (was_root v (root_is _ v h))) (range_with_len 1 n) z (mem-range 1 n z lo (omega arith)) (is_root st z r)
-      (no (root (st' n st cs good) z) refl)
-    where
-      no : (b : Bool) → root (st' n st cs good) z ≡ b → b ≡ false
-      no true q = sym (is_root (s n st cs good) z (self_led z (root_is _ z q))) ∙ e
-      no false q = refl
+      count_less (root st) (root (st' n st cs)) (λ v h. is_root st v (was_root v (root_is _ v h))) (range_with_len 1 n) z (mem-range 1 n z lo (omega arith)) (is_root st z r)
+      (false_from_ne_true (root (st' n st cs) z) (λ q. both_ways _ e (is_root (s n st cs) z (self_led z (root_is _ z q)))))
 
-  pub fewer : (c : List ℕ) (ps : List (List ℕ)) → pairs (ds n st cs good) ≡ c ∷ ps → roots n (st' n st cs good) < roots n st
+  pub fewer : (c : List ℕ) (ps : List (List ℕ)) → pairs (ds n st cs) ≡ c ∷ ps → roots n (st' n st cs) < roots n st
   unfolding pairs leaders
   fewer c ps e = go (root S (var x)) refl (root S (var y)) refl
     where
       S : List ℕ
-      S = s n st cs good
+      S = s n st cs
 
       x : ℕ
       x = get_or c 0 0
@@ -157,11 +121,11 @@ module _ (n : ℕ) (st : List ℕ) (cs : List (List ℕ)) (good : Good n st cs) 
       y : ℕ
       y = get_or c 1 0
 
-      kept : Memᴰ c (ds n st cs good) × ((eqb (length c) 2 && among (map opp c) (ds n st cs good)) ≡ true)
-      kept = filter-mem _ (ds n st cs good) c (subst (Memᴰ c) (sym e) (Memᴰ.head refl))
+      kept : Memᴰ c (ds n st cs) × ((eqb (length c) 2 && among (map opp c) (ds n st cs)) ≡ true)
+      kept = filter-mem _ (ds n st cs) c (subst (Memᴰ c) (sym e) (Memᴰ.head refl))
 
       two : length c ≡ 2
-      two = eqb-true _ _ (and_parts (eqb (length c) 2) (among (map opp c) (ds n st cs good)) kept.1).0
+      two = eqb-true _ _ (and_parts (eqb (length c) 2) (among (map opp c) (ds n st cs)) kept.1).0
 
       ix : Memᴰ x c
       ix = get_or-mem c 0 0 (omega (arith, two))
@@ -169,20 +133,20 @@ module _ (n : ℕ) (st : List ℕ) (cs : List (List ℕ)) (good : Good n st cs) 
       iy : Memᴰ y c
       iy = get_or-mem c 1 0 (omega (arith, two))
 
-      lx : Live n st (s₀ n st cs good) (var x)
+      lx : Live n st (s₀ n st cs) (var x)
       lx = ds_live n st cs good c kept.0 x ix
 
-      ly : Live n st (s₀ n st cs good) (var y)
+      ly : Live n st (s₀ n st cs) (var y)
       ly = ds_live n st cs good c kept.0 y iy
 
       size : length (starting n (forced n cs)) ≡ suc n
-      size = sym (roots_inv n st cs good).size ∙ s_size n st cs good ∙ good.size
+      size = starting_size n (forced n cs)
 
       same : Same S (var x) (var y)
       same = subst (λ p. Same (fold join (starting n (forced n cs)) p) (var x) (var y)) (sym e)
           (run_joins (starting n (forced n cs)) c ps (let h = lx.high in omega (arith, size)) (let h = ly.high in omega (arith, size)))
 
-      go : (a : Bool) → root S (var x) ≡ a → (b : Bool) → root S (var y) ≡ b → roots n (st' n st cs good) < roots n st
+      go : (a : Bool) → root S (var x) ≡ a → (b : Bool) → root S (var y) ≡ b → roots n (st' n st cs) < roots n st
       go false p b q = gone (var x) lx.low lx.high lx.here p
       go true p false q = gone (var y) ly.low ly.high ly.here q
       go true p true q =
@@ -202,34 +166,13 @@ module _ (n : ℕ) where
   Leaves st (goes_on t es) = Good n t es × (roots n t < roots n st)
 
   round_leaves : (st : List ℕ) (cs : List (List ℕ)) → Good n st cs → Leaves st (round n st cs)
-  unfolding round cleaned paired
-  round_leaves st cs good = go (contradicts n cs) (eqb (length P) 0) refl (list_any (torn S) P)
+  round_leaves st cs good =
+      round_cases n st cs (Leaves st) (λ p. tt) (λ f e. record { good = last_good n st cs good e; proper = clean_proper (forced n cs) cs; no_pair = e }) (λ r. tt)
+      (λ f z. (next_good n st cs good, less (pairs (ds n st cs)) refl z))
     where
-      D : List (List ℕ)
-      D = ds n st cs good
-
-      P : List (List ℕ)
-      P = pairs D
-
-      S : List ℕ
-      S = s n st cs good
-
-      T : List ℕ
-      T = st' n st cs good
-
-      nil_of : (ps : List (List ℕ)) → eqb (length ps) 0 ≡ true → ps ≡ []
-      nil_of [] e = refl
-      nil_of (p ∷ ps) e = clash_of (sym e ∙ eqb-suc-zero (length ps))
-
-      less : (ps : List (List ℕ)) → pairs D ≡ ps → eqb (length ps) 0 ≡ false → roots n T < roots n st
+      less : (ps : List (List ℕ)) → pairs (ds n st cs) ≡ ps → eqb (length ps) 0 ≡ false → roots n (st' n st cs) < roots n st
       less [] q e = clash_of e
       less (c ∷ ps) q e = fewer n st cs good (clean_proper (forced n cs) cs) c ps q
-
-      go : (b d : Bool) → eqb (length P) 0 ≡ d → (e : Bool) → Leaves st (cond b stuck (cond d (ended T D) (cond e stuck (goes_on T (map (map (replace S)) D)))))
-      go true d z e = tt
-      go false true z e = record { good = last_good n st cs good z; proper = clean_proper (forced n cs) cs; no_pair = nil_of P z }
-      go false false z true = tt
-      go false false z false = (next_good n st cs good, less P refl z)
 
   abbrev pub Ends : ℕ → ℕ → Outcome → Type 0
   Ends r f (impossible k) = (r ≤ k) × (k < r + f)
@@ -238,10 +181,7 @@ module _ (n : ℕ) where
   -- with more fuel than roots the rounds end by themselves
   pub rounds_end : (f r : ℕ) (st : List ℕ) (cs : List (List ℕ)) → Good n st cs → roots n st < f → Ends r f (rounds n f r st cs)
   unfolding rounds after
-  rounds_end zero r st cs good h = absurd (no h)
-    where
-      no : roots n st < 0 → ⊥
-      no h = omega arith
+  rounds_end zero r st cs good h = absurd (omega arith)
   rounds_end (suc f) r st cs good h = go (round n st cs) (round_leaves st cs good) (rounds_end f (r + 1))
     where
       later : (o : Outcome) → Ends (r + 1) f o → Ends r (suc f) o
@@ -255,12 +195,9 @@ module _ (n : ℕ) where
 
 roots_le : (n : ℕ) (st : List ℕ) → roots n st ≤ n
 unfolding roots
-roots_le n st = omega (arith, filter-le (root st) (range_with_len 1 n), length-range_with_len 1 n)
+roots_le n st = omega (arith, length-filter (root st) (range_with_len 1 n), count_by-le-length (root st) (range_with_len 1 n), length-range_with_len 1 n)
 
 -- the rounds of a table: at least 1, at most n + 1; what is settled is clean, speaks of roots and has no pair
 pub outcome_ends : (n : ℕ) (cs : List (List ℕ)) → Inside n cs → Ends n 1 (n + 1) (outcome n cs)
 unfolding outcome
-outcome_ends n cs h = rounds_end n (n + 1) 1 (starting n []) cs (first_good n cs h) (omega (arith, few))
-  where
-    few : roots n (starting n []) ≤ n
-    few = roots_le n (starting n [])
+outcome_ends n cs h = rounds_end n (n + 1) 1 (starting n []) cs (first_good n cs h) (omega (arith, roots_le n (starting n [])))

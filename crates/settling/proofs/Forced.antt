@@ -1,17 +1,11 @@
 -- Forced literals are true in every assignment that satisfies the clauses.
-use Prim.Native.Nat.{ℕ, zero, suc, ◌+◌, ◌*◌}
-use mathlib.Core.Path.{◌≡◌, refl, sym, ap, ◌∙◌, subst}
-use mathlib.Core.Bool.{Bool, true, false, cond}
-use mathlib.Core.List.{List, [], ◌∷◌, Memᴰ}
-use mathlib.Core.Logic.{◌⊎◌, inl, inr, ⊎_elim}
-use lib.ListN.{set, replicate}
-use lib.Dec.{eqb}
-use borrow.Author.Tests.{eqb-true, not-true}
-use Rattle.std.specs.List.{fold}
-use Rattle.std.proofs.lemmas.Bool.{or_cases}
+use Rattle.std.proofs.Common.{◌≡◌, ℕ, ◌+◌, ◌*◌, Bool, true, false, eqb, ◌⊎◌, List, set, replicate, fold, sym, ap, ◌∙◌, subst, inl, inr, ⊎_elim, get_or-set_other, eqb-true}
+use mathlib.Core.List.{Memᴰ}
+use Rattle.std.proofs.lemmas.Bool.{cases_eq, cond_both, not-true, or_cases}
 use Rattle.ways.proofs.Bools.{clash_of}
 use Rattle.ways.proofs.Runs.{fold_keeps, iterate_keeps}
 use Rattle.ways.proofs.Rows.{list_all-mem, list_any-mem}
+use Rattle.ways.proofs.Members.{get_or_same}
 use Rattle.tables.specs.Literal.{opp, holds}
 use Rattle.tables.specs.Clause.{void, satisfies, satisfies_all}
 use Rattle.tables.proofs.Literals.{holds-opp}
@@ -20,18 +14,10 @@ use Rattle.rules.specs.Forced.{marked, forces, force_at, force_in, pass, forced}
 
 -- what is marked after a store was marked, or is the place
 pub set_was : (m : List ℕ) (b v : ℕ) → marked (set m b 1) v ≡ true → (v ≡ b) ⊎ (marked m v ≡ true)
-unfolding marked
-set_was [] b v e = inr e
-set_was (x ∷ m) zero zero e = inl refl
-set_was (x ∷ m) zero (suc v) e = inr e
-set_was (x ∷ m) (suc b) zero e = inr e
-set_was (x ∷ m) (suc b) (suc v) e = ⊎_elim (λ p. inl (ap suc p)) (λ p. inr p) (set_was m b v e)
+set_was m b v e = ⊎_elim inl (λ n. inr (ap (λ x. eqb x 1) (sym (get_or-set_other m b v 1 0 n)) ∙ e)) (cases_eq v b)
 
 pub none_marked : (k l : ℕ) → marked (replicate k 0) l ≡ false
-unfolding marked
-none_marked zero l = refl
-none_marked (suc k) zero = refl
-none_marked (suc k) (suc l) = none_marked k l
+none_marked k l = ap (λ x. eqb x 1) (get_or_same k l 0)
 
 module _ (a : ℕ → Bool) where
   -- all that is marked holds
@@ -49,19 +35,14 @@ module _ (a : ℕ → Bool) where
 
   at_sound : (c m : List ℕ) (l : ℕ) → satisfies a c ≡ true → Sound m → Sound (force_at c m l)
   unfolding force_at
-  at_sound c m l h s = go (forces m c l) refl
-    where
-      go : (b : Bool) → forces m c l ≡ b → (k : ℕ) → marked (cond b (set m l 1) m) k ≡ true → holds a k ≡ true
-      go true f k e = ⊎_elim (λ q. subst (λ y. holds a y ≡ true) (sym q) (forces_sound m c l h s f)) (s k) (set_was m l k e)
-      go false f k e = s k e
+  at_sound c m l h s =
+      cond_both (forces m c l) (set m l 1) m Sound
+      (λ f k e. ⊎_elim (λ q. subst (λ y. holds a y ≡ true) (sym q) (forces_sound m c l h s f)) (s k) (set_was m l k e)) (λ f. s)
 
   in_sound : (m c : List ℕ) → satisfies a c ≡ true → Sound m → Sound (force_in m c)
   unfolding force_in
-  in_sound m c h s = go (void c)
-    where
-      go : (b : Bool) → Sound (cond b m (fold (force_at c) m c))
-      go true = s
-      go false = fold_keeps (force_at c) Sound c (λ k l i. at_sound c k l h) m s
+  in_sound m c h s =
+      cond_both (void c) m (fold (force_at c) m c) Sound (λ v. s) (λ v. fold_keeps (force_at c) Sound c (λ k l i. at_sound c k l h) m s)
 
   pub forced_holds : (n : ℕ) (cs : List (List ℕ)) → satisfies_all a cs ≡ true → (l : ℕ) → marked (forced n cs) l ≡ true → holds a l ≡ true
   unfolding forced pass
@@ -79,15 +60,8 @@ marked_all n cs P h =
     Q m = (l : ℕ) → marked m l ≡ true → P l
 
     at_all : (c m : List ℕ) (l : ℕ) → P l → Q m → Q (force_at c m l)
-    at_all c m l p q = go (forces m c l)
-      where
-        go : (b : Bool) → Q (cond b (set m l 1) m)
-        go true k e = ⊎_elim (λ w. subst P (sym w) p) (q k) (set_was m l k e)
-        go false k e = q k e
+    at_all c m l p q = cond_both (forces m c l) (set m l 1) m Q (λ f k e. ⊎_elim (λ w. subst P (sym w) p) (q k) (set_was m l k e)) (λ f. q)
 
     in_all : (m c : List ℕ) → Memᴰ c cs → Q m → Q (force_in m c)
-    in_all m c i q = go (void c)
-      where
-        go : (b : Bool) → Q (cond b m (fold (force_at c) m c))
-        go true = q
-        go false = fold_keeps (force_at c) Q c (λ k l o. at_all c k l (h c i l o)) m q
+    in_all m c i q =
+        cond_both (void c) m (fold (force_at c) m c) Q (λ v. q) (λ v. fold_keeps (force_at c) Q c (λ k l o. at_all c k l (h c i l o)) m q)

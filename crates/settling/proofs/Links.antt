@@ -1,25 +1,55 @@
 -- Pairs and classes: in an assignment that satisfies the clauses each variable has the value of what it stands for.
-use Prim.Native.Nat.{ℕ, zero, suc, ◌+◌, ◌*◌}
-use mathlib.Core.Path.{◌≡◌, refl, sym, ap, ◌∙◌}
-use mathlib.Core.Bool.{Bool, true, false, cond, not, ◌||◌}
-use mathlib.Core.List.{List, [], ◌∷◌, map, Memᴰ}
-use native.Mathlib.Omega.{arith}
-use lib.ListN.{length, get_or}
-use lib.Dec.{eqb, ltb}
-use borrow.Author.Tests.{eqb-true, not-true}
+use Rattle.std.proofs.Common.{◌≡◌, ℕ, zero, suc, ◌+◌, ◌*◌, ◌<◌, ◌≤◌, Bool, true, false, cond, not, eqb, ltb, ◌⊎◌, List, [], ◌∷◌, map, length, get_or, sym, refl, ap, ◌∙◌, inl, inr, ⊎_elim, arith, rules, ltb-false, ltb-true, eqb-true}
+use mathlib.Core.List.{Memᴰ}
 use Rattle.std.specs.List.{range_with_len}
+use Rattle.std.proofs.lemmas.Bool.{not-true, and_parts, cases_lt, cond_both, eqb-false}
+use Rattle.std.proofs.lemmas.List.{get_or_past}
+use Rattle.std.proofs.lemmas.List.FromFn.{get_or-map-range_with_len, length-map-range_with_len}
 use Rattle.ways.specs.Ways.{among}
-use Rattle.std.proofs.lemmas.Bool.{and_parts}
 use Rattle.ways.proofs.Bools.{clash_of}
 use Rattle.ways.proofs.Runs.{fold_keeps}
 use Rattle.ways.proofs.Rows.{list_all-mem, filter-mem}
-use Rattle.ways.proofs.Members.{among-mem}
+use Rattle.ways.proofs.Members.{among-mem, map_cases}
 use Rattle.tables.specs.Literal.{var, neg, opp, holds}
 use Rattle.tables.specs.Clause.{satisfies, satisfies_all}
 use Rattle.tables.proofs.Literals.{holds-opp, holds_by, holds_pos, holds-neg, holds_zero, holds_one}
 use Rattle.rules.specs.Forced.{marked}
 use Rattle.rules.specs.Pairs.{pairs, stands, replace, alone, starting, give_way, meet, join, leaders}
 use Rattle.settling.proofs.Forced.{Sound}
+
+-- what a variable stands for at first
+module _ (n : ℕ) (m : List ℕ) where
+  pub starting_size : length (starting n m) ≡ suc n
+  unfolding starting
+  starting_size = ap suc (length-map-range_with_len (alone m) 1 n)
+
+  pub starting_in : (v : ℕ) → 1 ≤ v → v ≤ n → stands (starting n m) v ≡ alone m v
+  unfolding starting stands
+  starting_in zero h k = absurd (omega arith)
+  starting_in (suc v) h k = get_or-map-range_with_len (alone m) 1 n v (suc v) _ (omega arith) (omega arith)
+
+  pub starting_is : (v : ℕ) → (stands (starting n m) v ≡ alone m v) ⊎ (stands (starting n m) v ≡ 2 * v)
+  unfolding starting stands
+  starting_is zero = inr refl
+  starting_is (suc v) =
+      ⊎_elim (λ h. inl (starting_in (suc v) (omega arith) (omega arith)))
+      (λ h. inr (get_or_past (map (alone m) (range_with_len 1 n)) v (2 * suc v) (rw (length-map-range_with_len (alone m) 1 n) h))) (cases_lt v n)
+
+-- what gives way to what: a literal, and the places of a row
+pub way_cases : (low high l : ℕ) (P : ℕ → Type 0) → (l ≡ high → P low) → (l ≡ opp high → P (opp low)) → ((l ≡ high → ⊥) → (l ≡ opp high → ⊥) → P l)
+    → P (give_way low high l)
+unfolding give_way
+way_cases low high l P f g h =
+    cond_both (eqb l high) low _ P (λ e. f (eqb-true _ _ e))
+    (λ e. cond_both (eqb l (opp high)) (opp low) l P (λ q. g (eqb-true _ _ q)) (λ q. h (eqb-false _ _ e) (eqb-false _ _ q)))
+
+pub meet_cases : (p q : ℕ) (s : List ℕ) (P : List ℕ → Type 0) → (var p ≡ var q → P s) → (var p < var q → P (map (give_way p q) s)) → (var q < var p → P (map (give_way q p) s))
+    → P (meet p q s)
+unfolding meet
+meet_cases p q s P f g h =
+    cond_both (eqb (var p) (var q)) s _ P (λ e. f (eqb-true _ _ e))
+    (λ e. cond_both (ltb (var p) (var q)) (map (give_way p q) s) (map (give_way q p) s) P (λ l. g (ltb-true _ _ l))
+    (λ l. let n = eqb-false _ _ e in let k = ltb-false _ _ l in h (omega arith)))
 
 module _ (a : ℕ → Bool) where
   -- each variable has the value of the literal that it stands for
@@ -35,28 +65,19 @@ module _ (a : ℕ → Bool) where
       go false = h
 
   way_holds : (p q l : ℕ) → holds a p ≡ holds a q → holds a (give_way p q l) ≡ holds a l
-  unfolding give_way
-  way_holds p q l e = go (eqb l q) refl (eqb l (opp q)) refl
-    where
-      go : (b : Bool) → eqb l q ≡ b → (c : Bool) → eqb l (opp q) ≡ c → holds a (cond b p (cond c (opp p) l)) ≡ holds a l
-      go true f c g = e ∙ ap (holds a) (sym (eqb-true l q f))
-      go false f true g = holds-opp a p ∙ ap not e ∙ sym (holds-opp a q) ∙ ap (holds a) (sym (eqb-true l (opp q) g))
-      go false f false g = refl
+  way_holds p q l e =
+      way_cases p q l (λ k. holds a k ≡ holds a l) (λ f. e ∙ ap (holds a) (sym f))
+      (λ g. holds-opp a p ∙ ap not e ∙ sym (holds-opp a q) ∙ ap (holds a) (sym g)) (λ f g. refl)
 
   -- a change of literals that keeps their truth keeps that of every place
   map_holds : (f : ℕ → ℕ) → ((l : ℕ) → holds a (f l) ≡ holds a l) → (s : List ℕ) (v d : ℕ) → holds a (get_or (map f s) v d) ≡ holds a (get_or s v d)
-  map_holds f h [] v d = refl
-  map_holds f h (x ∷ s) zero d = h x
-  map_holds f h (x ∷ s) (suc v) d = map_holds f h s v d
+  map_holds f h s v d = ⊎_elim (λ q. ap (holds a) q ∙ h (get_or s v d)) (λ q. ap (holds a) (q.0 ∙ sym q.1)) (map_cases f s v d d)
 
   meet_agrees : (p q : ℕ) (s : List ℕ) → holds a p ≡ holds a q → Agrees s → Agrees (meet p q s)
-  unfolding meet stands
-  meet_agrees p q s e h = go (eqb (var p) (var q)) (ltb (var p) (var q))
-    where
-      go : (b c : Bool) → (v : ℕ) → holds a (get_or (cond b s (cond c (map (give_way p q) s) (map (give_way q p) s))) v (2 * v)) ≡ a v
-      go true c v = h v
-      go false true v = map_holds (give_way p q) (λ l. way_holds p q l e) s v (2 * v) ∙ h v
-      go false false v = map_holds (give_way q p) (λ l. way_holds q p l (sym e)) s v (2 * v) ∙ h v
+  unfolding stands
+  meet_agrees p q s e h =
+      meet_cases p q s Agrees (λ k. h) (λ k v. map_holds (give_way p q) (λ l. way_holds p q l e) s v (2 * v) ∙ h v)
+      (λ k v. map_holds (give_way q p) (λ l. way_holds q p l (sym e)) s v (2 * v) ∙ h v)
 
   -- a pair: its two literals are opposites
   abbrev pub Opposed : List ℕ → Type 0
@@ -65,17 +86,8 @@ module _ (a : ℕ → Bool) where
   opposed : (c : List ℕ) → eqb (length c) 2 ≡ true → satisfies a c ≡ true → satisfies a (map opp c) ≡ true → Opposed c
   opposed [] e g h = clash_of (sym e)
   opposed (x ∷ []) e g h = clash_of (sym e)
-  opposed (x ∷ y ∷ []) e g h = go (holds a x) (holds a y) g (rw (holds-opp a x, holds-opp a y) at h)
-    where
-      go : (p q : Bool) → (p || (q || false)) ≡ true → (not p || (not q || false)) ≡ true → p ≡ not q
-      go true true g h = sym h
-      go true false g h = refl
-      go false true g h = refl
-      go false false g h = g
-  opposed (x ∷ y ∷ z ∷ c) e g h = absurd (no (eqb-true _ _ e))
-    where
-      no : suc (suc (suc (length c))) ≡ 2 → ⊥
-      no q = omega arith
+  opposed (x ∷ y ∷ []) e g h = let k = rw (holds-opp a x, holds-opp a y) at h in search rules
+  opposed (x ∷ y ∷ z ∷ c) e g h = let q : suc (suc (suc (length c))) ≡ 2 = eqb-true _ _ e in absurd (omega arith)
 
   pub pairs_opposed : (ds : List (List ℕ)) → satisfies_all a ds ≡ true → (c : List ℕ) → Memᴰ c (pairs ds) → Opposed c
   unfolding pairs
@@ -93,22 +105,13 @@ module _ (a : ℕ → Bool) where
   module _ (zero_is : a 0 ≡ false) (m : List ℕ) (sound : Sound a m) where
     alone-holds : (v : ℕ) → holds a (alone m v) ≡ a v
     unfolding alone
-    alone-holds v = go (marked m (2 * v)) refl (marked m (2 * v + 1)) refl
-      where
-        go : (b : Bool) → marked m (2 * v) ≡ b → (c : Bool) → marked m (2 * v + 1) ≡ c → holds a (cond b 1 (cond c 0 (2 * v))) ≡ a v
-        go true e c f = holds_one a zero_is ∙ sym (sym (holds_pos a v) ∙ sound (2 * v) e)
-        go false e true f = holds_zero a zero_is ∙ sym (not-true (a v) (sym (holds-neg a v) ∙ sound (2 * v + 1) f))
-        go false e false f = holds_pos a v
-
-    start : (b k v : ℕ) → holds a (get_or (map (alone m) (range_with_len b k)) v (2 * (b + v))) ≡ a (b + v)
-    start b zero v = holds_pos a (b + v)
-    start b (suc k) zero = let e : b + 0 ≡ b = omega arith in rw e (alone-holds b)
-    start b (suc k) (suc v) = let e : b + suc v ≡ b + 1 + v = omega arith in rw e (start (b + 1) k v)
+    alone-holds v =
+        cond_both (marked m (2 * v)) 1 _ (λ k. holds a k ≡ a v) (λ e. holds_one a zero_is ∙ sym (sym (holds_pos a v) ∙ sound (2 * v) e))
+        (λ e. cond_both (marked m (2 * v + 1)) 0 (2 * v) (λ k. holds a k ≡ a v)
+        (λ f. holds_zero a zero_is ∙ sym (not-true (a v) (sym (holds-neg a v) ∙ sound (2 * v + 1) f))) (λ f. holds_pos a v))
 
     begin : (n : ℕ) → Agrees (starting n m)
-    unfolding stands starting
-    begin n zero = holds_zero a zero_is ∙ sym zero_is
-    begin n (suc v) = let e : 1 + v ≡ suc v = omega arith in rw e at (start 1 n v)
+    begin n v = ⊎_elim (λ e. ap (holds a) e ∙ alone-holds v) (λ e. ap (holds a) e ∙ holds_pos a v) (starting_is n m v)
 
     pub leaders_agree : (n : ℕ) (ds : List (List ℕ)) → satisfies_all a ds ≡ true → Agrees (leaders n m (pairs ds))
     unfolding leaders

@@ -1,25 +1,18 @@
 -- The rounds together: the settled table, the fixed values and the links are satisfied by exactly the assignments that
 -- satisfy the table; a contradiction by none.
-use Prim.Native.Nat.{ℕ, zero, suc, ◌+◌, ◌*◌, ◌≤◌}
-use mathlib.Core.Path.{◌≡◌, refl, sym, ap, ◌∙◌, subst}
-use mathlib.Core.Bool.{Bool, true, false, cond, ◌||◌}
-use mathlib.Core.List.{List, [], map}
-use mathlib.Core.Logic.{◌↔◌}
-use native.Mathlib.Omega.{arith}
-use lib.ListN.{length, get_or, length-map}
-use lib.Dec.{eqb}
-use Rattle.std.specs.List.{list_any, range_with_len}
-use Rattle.std.proofs.lemmas.List.FromFn.{length-range_with_len}
+use Rattle.std.proofs.Common.{◌≡◌, ℕ, zero, suc, ◌+◌, ◌*◌, ◌≤◌, Bool, true, false, ◌↔◌, List, [], map, sym, ap, ◌∙◌, subst, ⊎_elim}
+use Rattle.std.specs.List.{list_any}
+use Rattle.std.proofs.lemmas.Bool.{or_parts}
 use Rattle.tables.specs.Literal.{var, holds}
 use Rattle.tables.specs.Clause.{satisfies_all}
 use Rattle.tables.proofs.Literals.{var_pos, holds_pos}
 use Rattle.tables.proofs.Clauses.{maps_hold}
 use Rattle.tables.proofs.Checked.{Inside}
 use Rattle.rules.specs.Forced.{marked, clash, empty, contradicts}
-use Rattle.rules.specs.Pairs.{pairs, stands, replace, alone, starting, torn}
-use Rattle.rules.specs.Rounds.{Round, stuck, ended, goes_on, paired, cleaned, round, Outcome, impossible, settled, after, rounds, outcome}
-use Rattle.settling.proofs.Links.{Agrees}
-use Rattle.settling.proofs.Round.{Good, m, ds, s, st', sound, clean_is, new_agrees, back_sound, back_agrees, back_to, no_empty, no_clash, no_torn, last_good, next_good}
+use Rattle.rules.specs.Pairs.{stands, replace, alone, starting}
+use Rattle.rules.specs.Rounds.{Round, stuck, ended, goes_on, round, Outcome, impossible, settled, after, rounds, outcome}
+use Rattle.settling.proofs.Links.{Agrees, starting_size, starting_is}
+use Rattle.settling.proofs.Round.{Good, m, ds, s, st', round_cases, sound, clean_is, new_agrees, back_sound, back_agrees, back_to, no_contradiction, no_torn, last_good, next_good}
 
 -- the models of clauses together with what the variables stand for
 abbrev pub Models : (ℕ → Bool) → List ℕ → List (List ℕ) → Type 0
@@ -32,43 +25,34 @@ module _ (a : ℕ → Bool) (zero_is : a 0 ≡ false) (n : ℕ) where
   Fine st cs (goes_on t es) = Good n t es × (Models a st cs ↔ Models a t es)
 
   round_fine : (st : List ℕ) (cs : List (List ℕ)) → Good n st cs → Fine st cs (round n st cs)
-  unfolding round contradicts cleaned paired
-  round_fine st cs good = go (list_any empty cs) refl (clash n M) refl (eqb (length P) 0) refl (list_any (torn S) P) refl
+  unfolding contradicts
+  round_fine st cs good =
+      round_cases n st cs (Fine st cs) (no_contradiction n st cs good a zero_is) (λ f e. (last_good n st cs good e, to_last (no_clash f))) (no_torn n st cs good a zero_is)
+      (λ f z. (next_good n st cs good, (λ h. (to_next (no_clash f)).0 ((to_last (no_clash f)).0 h), λ h. (to_last (no_clash f)).1 ((to_next (no_clash f)).1 h))))
     where
-      M : List ℕ
-      M = m n st cs good
-
       D : List (List ℕ)
-      D = ds n st cs good
-
-      P : List (List ℕ)
-      P = pairs D
+      D = ds n st cs
 
       S : List ℕ
-      S = s n st cs good
+      S = s n st cs
 
       T : List ℕ
-      T = st' n st cs good
+      T = st' n st cs
 
-      to_last : clash n M ≡ false → Models a st cs ↔ Models a T D
+      no_clash : contradicts n cs ≡ false → clash n (m n st cs) ≡ false
+      no_clash f = (or_parts (list_any empty cs) (clash n (m n st cs)) f).1
+
+      to_last : clash n (m n st cs) ≡ false → Models a st cs ↔ Models a T D
       to_last calm = (
         λ h. (clean_is n st cs good a zero_is (sound n st cs good a zero_is h.0) ∙ h.0, new_agrees n st cs good a zero_is h.0 h.1),
         λ h. (sym (clean_is n st cs good a zero_is (back_sound n st cs good a zero_is calm h.1)) ∙ h.0, back_agrees n st cs good a zero_is calm h.1),
       )
 
-      to_next : clash n M ≡ false → Models a T D ↔ Models a T (map (map (replace S)) D)
+      to_next : clash n (m n st cs) ≡ false → Models a T D ↔ Models a T (map (map (replace S)) D)
       to_next calm = (
         λ h. (maps_hold a (replace S) D (back_to n st cs good a zero_is calm h.1) ∙ h.0, h.1),
         λ h. (sym (maps_hold a (replace S) D (back_to n st cs good a zero_is calm h.1)) ∙ h.0, h.1),
       )
-
-      go : (b : Bool) → list_any empty cs ≡ b → (c : Bool) → clash n M ≡ c → (d : Bool) → eqb (length P) 0 ≡ d → (e : Bool) → list_any (torn S) P ≡ e
-          → Fine st cs (cond (b || c) stuck (cond d (ended T D) (cond e stuck (goes_on T (map (map (replace S)) D)))))
-      go true p c q d z e r = no_empty n st cs good a zero_is p
-      go false p true q d z e r = no_clash n st cs good a zero_is q
-      go false p false q true z e r = (last_good n st cs good z, to_last q)
-      go false p false q false z true r = no_torn n st cs good a zero_is r
-      go false p false q false z false r = (next_good n st cs good, (λ h. (to_next q).0 ((to_last q).0 h), λ h. (to_last q).1 ((to_next q).1 h)))
 
   -- the rounds, whatever their fuel
   abbrev pub Exact : List ℕ → List (List ℕ) → Outcome → Type 0
@@ -90,25 +74,17 @@ module _ (a : ℕ → Bool) (zero_is : a 0 ≡ false) (n : ℕ) where
       go (goes_on t es) h k = through t es (rounds n f (r + 1) t es) h.1 (k t es h.0)
 
 -- each variable by itself
-row_own : (b k v d : ℕ) → d ≡ 2 * (b + v) → get_or (map (alone []) (range_with_len b k)) v d ≡ d
-unfolding alone marked
-row_own b zero v d e = refl
-row_own b (suc k) zero d e = omega arith
-row_own b (suc k) (suc v) d e = row_own (b + 1) k v d (omega arith)
-
 own : (n v : ℕ) → stands (starting n []) v ≡ 2 * v
-unfolding starting stands
-own n zero = refl
-own n (suc v) = row_own 1 n v (2 * suc v) (omega arith)
+unfolding alone
+own n v = ⊎_elim (λ e. e) (λ e. e) (starting_is n [] v)
 
 pub first_good : (n : ℕ) (cs : List (List ℕ)) → Inside n cs → Good n (starting n []) cs
-unfolding starting
-first_good n cs h = record { size = ap suc (length-map (range_with_len 1 n) (alone []) ∙ length-range_with_len 1 n); none = own n 0; rooted = λ v. own n (var (stands (starting n []) v)); within = λ v h. subst (λ l. var l ≤ n) (sym (own n v)) (subst (λ u. u ≤ n) (sym (var_pos v)) h); over = λ c i l k. (own n (var l), (h c i l k).0, (h c i l k).1) }
+first_good n cs h = record { size = starting_size n []; none = own n 0; rooted = λ v. own n (var (stands (starting n []) v)); within = λ v h. subst (λ l. var l ≤ n) (sym (own n v)) (subst (λ u. u ≤ n) (sym (var_pos v)) h); over = λ c i l k. (own n (var l), (h c i l k).0, (h c i l k).1) }
 
 -- the settled table, the values and the links together have exactly the models of the table; a contradiction has none
 abbrev pub Means : ℕ → (ℕ → Bool) → List (List ℕ) → Outcome → Type 0
 Means n a cs (impossible r) = satisfies_all a cs ≡ true → ⊥
-Means n a cs (settled r st ds) = Good n st ds × ((satisfies_all a cs ≡ true) ↔ Models a st ds)
+Means n a cs (settled r st es) = Good n st es × ((satisfies_all a cs ≡ true) ↔ Models a st es)
 
 pub outcome_means : (n : ℕ) (cs : List (List ℕ)) → Inside n cs → (a : ℕ → Bool) → a 0 ≡ false → Means n a cs (outcome n cs)
 unfolding outcome
@@ -119,4 +95,4 @@ outcome_means n cs h a z = go (rounds n (n + 1) 1 (starting n []) cs) (rounds_ex
 
     go : (o : Outcome) → Exact a z n (starting n []) cs o → Means n a cs o
     go (impossible r) x = λ p. x p start
-    go (settled r st ds) x = (x.0, (λ p. x.1.0 (p, start), λ p. (x.1.1 p).0))
+    go (settled r st es) x = (x.0, (λ p. x.1.0 (p, start), λ p. (x.1.1 p).0))

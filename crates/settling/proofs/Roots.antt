@@ -1,20 +1,12 @@
 -- What a variable stands for is a literal of a root, or a value: the invariant of a round's merges.
-use Prim.Native.Nat.{ℕ, zero, suc, ◌+◌, ◌*◌, ◌/◌, ◌≤◌, ◌<◌}
-use mathlib.Core.Path.{◌≡◌, refl, sym, ap, ◌∙◌, subst}
-use mathlib.Core.Bool.{Bool, true, false, cond}
-use mathlib.Core.List.{List, [], ◌∷◌, map}
-use mathlib.Core.Logic.{◌⊎◌, inl, inr, ⊎_elim}
-use native.Mathlib.Omega.{arith}
-use lib.ListN.{length, get_or, length-map}
-use lib.Dec.{eqb, ltb}
-use borrow.Author.Tests.{eqb-false, ne_eqb, ltb-true, ltb-false}
-use Rattle.std.specs.List.{range_with_len}
-use Rattle.std.proofs.lemmas.List.FromFn.{get_or-map-range_with_len}
-use Rattle.ways.proofs.Members.{get_or_past}
+use Rattle.std.proofs.Common.{◌≡◌, ℕ, ◌*◌, ◌<◌, ◌⊎◌, List, map, length, get_or, sym, refl, ap, ◌∙◌, subst, inl, inr, ⊎_elim, arith, ne_eqb}
+use Rattle.std.proofs.lemmas.Bool.{cond_both}
+use Rattle.std.proofs.lemmas.List.{length-map}
+use Rattle.ways.proofs.Members.{map_cases}
 use Rattle.tables.specs.Literal.{var, neg, opp}
 use Rattle.tables.proofs.Literals.{var_pos, neg_pos, var-opp, low_var, same_var}
-use Rattle.rules.specs.Forced.{marked}
 use Rattle.rules.specs.Pairs.{stands, replace, alone, starting, give_way, meet, join, root}
+use Rattle.settling.proofs.Links.{starting_is, way_cases, meet_cases}
 
 -- u stands for itself
 abbrev pub Root : List ℕ → ℕ → Type 0
@@ -30,20 +22,12 @@ replace_pos s v = rw (neg_pos v, var_pos v)
 
 pub var-replace : (s : List ℕ) (l : ℕ) → var (replace s l) ≡ var (stands s (var l))
 unfolding replace
-var-replace s l = go (neg l)
-  where
-    go : (b : Bool) → var (cond b (opp (stands s (var l))) (stands s (var l))) ≡ var (stands s (var l))
-    go true = var-opp (stands s (var l))
-    go false = refl
+var-replace s l =
+    cond_both (neg l) (opp (stands s (var l))) (stands s (var l)) (λ k. var k ≡ var (stands s (var l))) (λ e. var-opp (stands s (var l))) (λ e. refl)
 
--- a place of a mapped row: mapped, or beyond the row
-map_at : (f : ℕ → ℕ) (s : List ℕ) (v d : ℕ) → (get_or (map f s) v d ≡ f (get_or s v d)) ⊎ ((get_or (map f s) v d ≡ d) × (get_or s v d ≡ d))
-map_at f [] v d = inr (refl, refl)
-map_at f (x ∷ s) zero d = inl refl
-map_at f (x ∷ s) (suc v) d = map_at f s v d
-
+-- what a change of literals leaves as it is keeps its place
 map_fix : (f : ℕ → ℕ) (s : List ℕ) (v d : ℕ) → f (get_or s v d) ≡ get_or s v d → get_or (map f s) v d ≡ get_or s v d
-map_fix f s v d e = ⊎_elim (λ q. q ∙ e) (λ q. q.0 ∙ sym q.1) (map_at f s v d)
+map_fix f s v d e = ⊎_elim (λ q. q ∙ e) (λ q. q.0 ∙ sym q.1) (map_cases f s v d d)
 
 -- one merge: the higher variable gives way
 module _ (lo hi : ℕ) where
@@ -52,14 +36,9 @@ module _ (lo hi : ℕ) where
   way_other l h = rw (ne_eqb l hi (λ e. h (ap var e)), ne_eqb l (opp hi) (λ e. h (ap var e ∙ var-opp hi)))
 
   pub way_var : (l : ℕ) → (var (give_way lo hi l) ≡ var lo) ⊎ ((give_way lo hi l ≡ l) × (var l ≡ var hi → ⊥))
-  unfolding give_way
-  way_var l = go (eqb l hi) refl (eqb l (opp hi)) refl
-    where
-      go : (b : Bool) → eqb l hi ≡ b → (c : Bool) → eqb l (opp hi) ≡ c
-          → (var (cond b lo (cond c (opp lo) l)) ≡ var lo) ⊎ ((cond b lo (cond c (opp lo) l) ≡ l) × (var l ≡ var hi → ⊥))
-      go true e c f = inl refl
-      go false e true f = inl (var-opp lo)
-      go false e false f = inr (refl, λ q. ⊎_elim (eqb-false l hi e) (eqb-false l (opp hi) f) (same_var l hi q))
+  way_var l =
+      way_cases lo hi l (λ k. (var k ≡ var lo) ⊎ ((k ≡ l) × (var l ≡ var hi → ⊥))) (λ e. inl refl) (λ e. inl (var-opp lo))
+      (λ f g. inr (refl, λ q. ⊎_elim f g (same_var l hi q)))
 
   module _ (s : List ℕ) (less : var lo < var hi) (root : Root s (var lo)) where
     stays : (u : ℕ) → (u ≡ var hi → ⊥) → Root s u → Root (map (give_way lo hi) s) u
@@ -74,26 +53,20 @@ module _ (lo hi : ℕ) where
     unfolding s' stands
     moved v = ⊎_elim
         (λ q. ⊎_elim (λ e. inl (ap var q ∙ e)) (λ e. inr (inl (ap var (q ∙ e.0), e.1))) (way_var (get_or s v (2 * v))))
-        (λ q. inr (inr (ap var q.0 ∙ var_pos v, q.0))) (map_at (give_way lo hi) s v (2 * v))
+        (λ q. inr (inr (ap var q.0 ∙ var_pos v, q.0))) (map_cases (give_way lo hi) s v (2 * v) (2 * v))
 
     way_rooted : Rooted s → Rooted s'
     unfolding s'
     way_rooted h v = ⊎_elim
-        (λ e. rw e (stays (var lo) (λ q. no q) root))
+        (λ e. rw e (stays (var lo) (λ q. absurd (omega arith)) root))
         (⊎_elim (λ e. rw e.0 (stays (var (stands s v)) e.1 (h v))) (λ e. rw e.0 e.1)) (moved v)
-      where
-        no : var lo ≡ var hi → ⊥
-        no q = omega arith
 
     way_in : (R : ℕ → Type 0) → R (var lo) → ((v : ℕ) → R v → R (var (stands s v))) → (v : ℕ) → R v → R (var (stands s' v))
     way_in R p h v r = ⊎_elim (λ e. rw e p) (⊎_elim (λ e. rw e.0 (h v r)) (λ e. rw e.0 r)) (moved v)
 
     way_const : (v : ℕ) → stands s v < 2 → stands s' v ≡ stands s v
     unfolding s' stands
-    way_const v h = map_fix (give_way lo hi) s v (2 * v) (way_other (get_or s v (2 * v)) (λ e. no e))
-      where
-        no : get_or s v (2 * v) / 2 ≡ hi / 2 → ⊥
-        no e = omega arith
+    way_const v h = map_fix (give_way lo hi) s v (2 * v) (way_other (get_or s v (2 * v)) (λ e. absurd (omega arith)))
 
 -- what the merges of a round keep: R is any property of variables
 pub record Inv (R : ℕ → Type 0) (s₀ s : List ℕ) : Type 0 where
@@ -114,14 +87,7 @@ module _ (R : ℕ → Type 0) (s₀ : List ℕ) where
       }
 
   meet_inv : (p q : ℕ) (s : List ℕ) → Root s (var p) → Root s (var q) → R (var p) → R (var q) → Inv R s₀ s → Inv R s₀ (meet p q s)
-  unfolding meet
-  meet_inv p q s f g h k i = go (eqb (var p) (var q)) refl (ltb (var p) (var q)) refl
-    where
-      go : (b : Bool) → eqb (var p) (var q) ≡ b → (c : Bool) → ltb (var p) (var q) ≡ c
-          → Inv R s₀ (cond b s (cond c (map (give_way p q) s) (map (give_way q p) s)))
-      go true e c l = i
-      go false e true l = way_inv p q s (ltb-true _ _ l) f h i
-      go false e false l = let n : var p ≡ var q → ⊥ = eqb-false _ _ e in let m : var q ≤ var p = ltb-false _ _ l in way_inv q p s (omega arith) g k i
+  meet_inv p q s f g h k i = meet_cases p q s (Inv R s₀) (λ e. i) (λ l. way_inv p q s l f h i) (λ l. way_inv q p s l g k i)
 
   pub join_inv : (s c : List ℕ) → R (var (get_or c 0 0)) → R (var (get_or c 1 0)) → Inv R s₀ s → Inv R s₀ (join s c)
   unfolding join
@@ -132,44 +98,25 @@ module _ (R : ℕ → Type 0) (s₀ : List ℕ) where
 
 -- the first of them
 module _ (n : ℕ) (m : List ℕ) where
-  pub starting_in : (v : ℕ) → 1 ≤ v → v ≤ n → stands (starting n m) v ≡ alone m v
-  unfolding starting stands
-  starting_in zero h k = absurd (no h)
-    where
-      no : 1 ≤ 0 → ⊥
-      no h = omega arith
-  starting_in (suc v) h k = let e : 1 + v ≡ suc v = omega arith in get_or-map-range_with_len (alone m) 1 n v (1 + v) _ (omega arith) refl ∙ ap (alone m) e
+  alone_cases : (v : ℕ) → (alone m v < 2) ⊎ (alone m v ≡ 2 * v)
+  unfolding alone
+  alone_cases v = grind arith
 
   pub starting_cases : (v : ℕ) → (stands (starting n m) v < 2) ⊎ Root (starting n m) v
-  unfolding starting stands alone
-  starting_cases zero = inr refl
-  starting_cases (suc v) = go (ltb v n) refl
-    where
-      one : (w : ℕ) → (alone m w < 2) ⊎ (alone m w ≡ 2 * w)
-      one w = pick (marked m (2 * w)) (marked m (2 * w + 1))
-        where
-          pick : (b c : Bool) → (cond b 1 (cond c 0 (2 * w)) < 2) ⊎ (cond b 1 (cond c 0 (2 * w)) ≡ 2 * w)
-          pick true c = inl (omega arith)
-          pick false true = inl (omega arith)
-          pick false false = inr refl
-
-      go : (b : Bool) → ltb v n ≡ b → (get_or (map (alone m) (range_with_len 1 n)) v (2 * suc v) < 2) ⊎ (get_or (map (alone m) (range_with_len 1 n)) v (2 * suc v) ≡ 2 * suc v)
-      go true h = let e : 1 + v ≡ suc v = omega arith in rw (get_or-map-range_with_len (alone m) 1 n v (1 + v) (2 * suc v) (ltb-true v n h) refl, e) (one (suc v))
-      go false h = inr (get_or_past (alone m) 1 n v (2 * suc v) (ltb-false v n h))
+  starting_cases v = ⊎_elim (λ e. ⊎_elim (λ h. inl (rw e h)) (λ h. inr (e ∙ h)) (alone_cases v)) inr (starting_is n m v)
 
   pub zero_root : Root (starting n m) 0
   unfolding starting stands
   zero_root = refl
 
-module _ (n : ℕ) (m : List ℕ) where
   pub starting_inv : (R : ℕ → Type 0) → ((v : ℕ) → R v → stands (starting n m) v < 2 → R 0) → Inv R (starting n m) (starting n m)
   starting_inv R h =
       record {
         rooted = λ v. subst (Root (starting n m)) (sym (where_root v).1) (where_root v).2;
-        inside = λ v r. ⊎_elim (λ k. subst R (sym (low_var (stands (starting n m) v) k)) (h v r k)) (λ e. subst R (sym (ap var e ∙ var_pos v)) r) (starting_cases n m v);
+        inside = λ v r. ⊎_elim (λ k. subst R (sym (low_var (stands (starting n m) v) k)) (h v r k)) (λ e. subst R (sym (ap var e ∙ var_pos v)) r) (starting_cases v);
         const = λ v k. refl;
         size = refl;
       }
     where
       where_root : (v : ℕ) → (u : ℕ) × (var (stands (starting n m) v) ≡ u) × Root (starting n m) u
-      where_root v = ⊎_elim (λ k. (0, low_var (stands (starting n m) v) k, zero_root n m)) (λ e. (v, ap var e ∙ var_pos v, e)) (starting_cases n m v)
+      where_root v = ⊎_elim (λ k. (0, low_var (stands (starting n m) v) k, zero_root)) (λ e. (v, ap var e ∙ var_pos v, e)) (starting_cases v)

@@ -1,13 +1,8 @@
 -- Laws of clauses under an assignment.
-use Prim.Native.Nat.{ℕ}
-use mathlib.Core.Path.{◌≡◌, refl, ap, ◌∙◌}
-use mathlib.Core.Bool.{Bool, true, false, not, ◌&&◌}
-use mathlib.Core.List.{List, [], ◌∷◌, ◌++◌, map, Memᴰ}
-use lib.IntN.{ℤ}
-use borrow.Author.Tests.{eq-eqb, ne_eqb}
-use Rattle.std.specs.List.{list_any}
-use Rattle.std.proofs.lemmas.List.Folds.{list_all-append}
-use Rattle.std.proofs.lemmas.List.Folds.{list_all-map}
+use Rattle.std.proofs.Common.{◌≡◌, ℕ, Bool, true, not, ◌&&◌, List, [], ◌∷◌, ◌++◌, map, ℤ, ap, ◌∙◌, ⊎_elim, eq-eqb, ne_eqb}
+use mathlib.Core.List.{Memᴰ}
+use Rattle.std.proofs.lemmas.Bool.{cases_Bool}
+use Rattle.std.proofs.lemmas.List.Folds.{list_all-append, list_all-map}
 use Rattle.ways.proofs.Rows.{list_any-mem, mem-list_any, list_any_alike, list_all_alike, list_any-map}
 use Rattle.ways.proofs.Members.{has-mem}
 use Rattle.tables.specs.Literal.{literal, var, opp, holds}
@@ -33,11 +28,9 @@ module _ (a : ℕ → Bool) where
 
   -- A void clause is satisfied by every assignment.
   pub void-holds : (c : List ℕ) → void c ≡ true → satisfies a c ≡ true
-  void-holds c e = let (x, i, h) = list_any-mem _ c e in go (holds a x) refl i (has-mem (opp x) c h)
-    where
-      go : {x : ℕ} (b : Bool) → holds a x ≡ b → Memᴰ x c → Memᴰ (opp x) c → list_any (holds a) c ≡ true
-      go {x} true t i j = mem-list_any (holds a) c x i t
-      go {x} false t i j = mem-list_any (holds a) c (opp x) j (holds-opp a x ∙ ap not t)
+  void-holds c e =
+      let (x, i, h) = list_any-mem _ c e in
+      ⊎_elim (mem-list_any (holds a) c x i) (λ t. mem-list_any (holds a) c (opp x) (has-mem (opp x) c h) (holds-opp a x ∙ ap not t)) (cases_Bool (holds a x))
 
   -- A change of literals that keeps the truth of those in the clauses keeps that of the clauses.
   module _ (f : ℕ → ℕ) where

@@ -3,3 +3,4 @@ pub mod Literals
 pub mod Clauses
 pub mod Checked
 pub mod LookUps
+pub mod Few

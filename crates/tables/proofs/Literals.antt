@@ -1,13 +1,5 @@
 -- Laws of literals: variable, sign, opposite and truth. Nobody else opens these definitions.
-use Prim.Native.Nat.{ℕ, zero, suc, ◌+◌, ◌-◌, ◌*◌, ◌/◌, ◌%◌, ◌≤◌, ◌<◌}
-use mathlib.Core.Path.{◌≡◌, refl, sym, ap, ◌∙◌}
-use mathlib.Core.Bool.{Bool, true, false, cond, not, not-not}
-use mathlib.Core.Logic.{◌⊎◌, inl, inr, ⊎_elim}
-use native.Mathlib.Omega.{arith}
-use lib.IntN.{ℤ, pos, negsuc, neg_ℤ}
-use lib.Dec.{eqb}
-use borrow.Author.Tests.{eqb-true, eqb-false, eq-eqb, ne_eqb}
-use Rattle.ways.proofs.Bools.{clash_of}
+use Rattle.std.proofs.Common.{◌≡◌, ℕ, suc, ◌+◌, ◌-◌, ◌*◌, ◌%◌, ◌<◌, ◌≤◌, Bool, true, false, cond, not, ◌⊎◌, ℤ, pos, negsuc, nat_abs, sym, refl, ap, ◌∙◌, arith, rules, eq-eqb, ne_eqb}
 use Rattle.tables.specs.Literal.{literal, entry, var, neg, opp, holds}
 
 -- The two literals of a variable.
@@ -18,76 +10,34 @@ pub var-neg : (v : ℕ) → var (2 * v + 1) ≡ v
 var-neg v = omega arith
 
 pub neg_pos : (v : ℕ) → neg (2 * v) ≡ false
-neg_pos v = ne_eqb ((2 * v) % 2) 1 no
-  where
-    no : (2 * v) % 2 ≡ 1 → ⊥
-    no e = omega arith
+neg_pos v = ne_eqb ((2 * v) % 2) 1 (λ e. omega arith)
 
 pub neg-neg : (v : ℕ) → neg (2 * v + 1) ≡ true
 neg-neg v = eq-eqb ((2 * v + 1) % 2) 1 (omega arith)
 
 -- Each literal is one of the two, and its opposite the other.
 pub two_forms : (l : ℕ) → ((l ≡ 2 * var l) × (opp l ≡ 2 * var l + 1)) ⊎ ((l ≡ 2 * var l + 1) × (opp l ≡ 2 * var l))
-two_forms l = go (eqb (l % 2) 1) refl
-  where
-    go : (b : Bool) → eqb (l % 2) 1 ≡ b
-        → ((l ≡ 2 * (l / 2)) × (cond b (l - 1) (l + 1) ≡ 2 * (l / 2) + 1)) ⊎ ((l ≡ 2 * (l / 2) + 1) × (cond b (l - 1) (l + 1) ≡ 2 * (l / 2)))
-    go true e = let h : l % 2 ≡ 1 = eqb-true _ _ e in inr (omega arith, omega arith)
-    go false e = let h : l % 2 ≡ 1 → ⊥ = eqb-false _ _ e in inl (omega arith, omega arith)
+two_forms l = grind arith
 
 -- The opposite in arithmetic, as a program computes it.
 pub opp_is : (l : ℕ) → opp l ≡ l + 1 - 2 * (l % 2)
-opp_is l = go (eqb (l % 2) 1) refl
-  where
-    go : (b : Bool) → eqb (l % 2) 1 ≡ b → cond b (l - 1) (l + 1) ≡ l + 1 - 2 * (l % 2)
-    go true e = let h : l % 2 ≡ 1 = eqb-true _ _ e in omega arith
-    go false e = let h : l % 2 ≡ 1 → ⊥ = eqb-false _ _ e in omega arith
+opp_is l = grind arith
 
 pub var-opp : (l : ℕ) → var (opp l) ≡ var l
 var-opp l = rw (opp_is l) (omega arith)
 
 pub neg-opp : (l : ℕ) → neg (opp l) ≡ not (neg l)
-neg-opp l = go (eqb (l % 2) 1) refl
-  where
-    go : (b : Bool) → eqb (l % 2) 1 ≡ b → eqb (cond b (l - 1) (l + 1) % 2) 1 ≡ not b
-    go true e = let h : l % 2 ≡ 1 = eqb-true _ _ e in ne_eqb ((l - 1) % 2) 1 (λ q. no h q)
-      where
-        no : l % 2 ≡ 1 → (l - 1) % 2 ≡ 1 → ⊥
-        no h q = omega arith
-    go false e = eq-eqb ((l + 1) % 2) 1 (odd (eqb-false (l % 2) 1 e))
-      where
-        odd : (l % 2 ≡ 1 → ⊥) → (l + 1) % 2 ≡ 1
-        odd h = omega arith
+neg-opp l = grind arith
 
 pub opp-opp : (l : ℕ) → opp (opp l) ≡ l
-opp-opp l =
-    ⊎_elim
-    (λ p. ⊎_elim (λ q. absurd (no p.1 q.0)) (λ q. q.1 ∙ ap (λ v. 2 * v) (var-opp l) ∙ sym p.0) (two_forms (opp l)))
-    (λ p. ⊎_elim (λ q. q.1 ∙ ap (λ v. 2 * v + 1) (var-opp l) ∙ sym p.0) (λ q. absurd (no' p.1 q.0)) (two_forms (opp l)))
-    (two_forms l)
-  where
-    no : opp l ≡ 2 * var l + 1 → opp l ≡ 2 * var (opp l) → ⊥
-    no e f = omega arith
-
-    no' : opp l ≡ 2 * var l → opp l ≡ 2 * var (opp l) + 1 → ⊥
-    no' e f = omega arith
+opp-opp l = grind arith
 
 pub opp_differs : (l : ℕ) → l ≡ opp l → ⊥
-opp_differs l e = ⊎_elim (λ p. no p.0 p.1) (λ p. no' p.0 p.1) (two_forms l)
-  where
-    no : l ≡ 2 * var l → opp l ≡ 2 * var l + 1 → ⊥
-    no p q = omega arith
-
-    no' : l ≡ 2 * var l + 1 → opp l ≡ 2 * var l → ⊥
-    no' p q = omega arith
+opp_differs l e = grind arith
 
 -- Two literals of one variable are equal or opposite.
 pub same_var : (l k : ℕ) → var l ≡ var k → (l ≡ k) ⊎ (l ≡ opp k)
-same_var l k e =
-    ⊎_elim
-    (λ p. ⊎_elim (λ q. inl (p.0 ∙ ap (λ v. 2 * v) e ∙ sym q.0)) (λ q. inr (p.0 ∙ ap (λ v. 2 * v) e ∙ sym q.1)) (two_forms k))
-    (λ p. ⊎_elim (λ q. inr (p.0 ∙ ap (λ v. 2 * v + 1) e ∙ sym q.1)) (λ q. inl (p.0 ∙ ap (λ v. 2 * v + 1) e ∙ sym q.0)) (two_forms k))
-    (two_forms l)
+same_var l k e = grind arith
 
 -- The numbers of a variable from 1 to n.
 pub low_var : (l : ℕ) → l < 2 → var l ≡ 0
@@ -111,11 +61,7 @@ module _ (a : ℕ → Bool) where
   holds-neg v = rw (neg-neg v, var-neg v)
 
   pub holds-opp : (l : ℕ) → holds a (opp l) ≡ not (holds a l)
-  holds-opp l = rw (neg-opp l, var-opp l) (go (neg l) (a (var l)))
-    where
-      go : (b v : Bool) → cond (not b) (not v) v ≡ not (cond b (not v) v)
-      go true v = sym (not-not v)
-      go false v = refl
+  holds-opp l = rw (neg-opp l, var-opp l) (search rules)
 
   pub holds_by : (l : ℕ) → holds a l ≡ cond (neg l) (not (a (var l))) (a (var l))
   holds_by l = refl
@@ -136,17 +82,9 @@ entry-literal (pos v) = rw (neg_pos v, var_pos v)
 entry-literal (negsuc v) = rw (neg-neg (suc v), var-neg (suc v))
 
 pub literal-entry : (l : ℕ) → (l ≡ 1 → ⊥) → literal (entry l) ≡ l
-literal-entry l h = go (var l) (neg l) refl (two_forms l) h
-  where
-    go : (v : ℕ) (b : Bool) → neg l ≡ b → ((l ≡ 2 * v) × (opp l ≡ 2 * v + 1)) ⊎ ((l ≡ 2 * v + 1) × (opp l ≡ 2 * v)) → (l ≡ 1 → ⊥)
-        → literal (cond b (neg_ℤ (pos v)) (pos v)) ≡ l
-    go v false e (inl p) h = sym p.0
-    go v false e (inr p) h = clash_of (sym (ap neg p.0 ∙ neg-neg v) ∙ e)
-    go v true e (inl p) h = clash_of (sym e ∙ ap neg p.0 ∙ neg_pos v)
-    go zero true e (inr p) h = absurd (h p.0)
-    go (suc v) true e (inr p) h = sym p.0
+literal-entry l h = grind (arith, two_forms l)
 
-pub var-literal : (z : ℤ) → var (literal z) ≡ lib.IntN.nat_abs z
+pub var-literal : (z : ℤ) → var (literal z) ≡ nat_abs z
 var-literal (pos v) = var_pos v
 var-literal (negsuc v) = var-neg (suc v)
 

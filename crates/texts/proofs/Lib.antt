@@ -1,4 +1,10 @@
--- What the code of clause text takes from its definitions, step by step.
+-- The laws of clause text: what is written is read back. And its definitions step by step, for the code.
+pub mod Spans
+pub mod Digits
+pub mod Words
+pub mod HeaderLine
+pub mod Lines
+pub mod Back
 pub mod TokenSteps
 pub mod NumeralSteps
 pub mod HeaderSteps

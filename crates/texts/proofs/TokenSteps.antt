@@ -1,9 +1,10 @@
 -- The next token of a text: what its definition says, told by the lengths of the gap before it and of its word.
-use Rattle.std.proofs.Common.{◌≡◌, refl, ap, ◌∙◌, ℕ, zero, suc, ◌+◌, ◌-◌, ◌<◌, ◌≤◌, Bool, true, false, cond, List, [], ◌∷◌, length, get_or, take, drop, arith, add-zero, one-add, add_assoc, drop-drop, drop-cons, length-drop, get_or-drop}
+use Rattle.std.proofs.Common.{◌≡◌, refl, ap, ◌∙◌, ℕ, suc, ◌+◌, ◌-◌, ◌<◌, ◌≤◌, Bool, true, false, cond, List, [], ◌∷◌, length, get_or, take, drop, arith, add-zero, one-add, add_assoc, drop-drop, drop-cons, length-drop, get_or-drop}
 use Rattle.std.proofs.lemmas.List.{drop_all}
 use Rattle.std.proofs.lemmas.List.Sums.{prefix_len_stops}
 use Rattle.std.specs.List.{slice_range}
 use Rattle.texts.specs.Bytes.{blank, solid, gap, word}
+use Rattle.texts.proofs.Spans.{tokens_passed}
 use Rattle.texts.specs.Tokens.{tokens_from, tokens_at}
 
 -- Blanks before a token change nothing.
@@ -17,20 +18,13 @@ past_gap p (b ∷ bs) = go (blank b) refl (past_gap (p + 1) bs)
     go true q e = rw (tokens_from, q, ← add_assoc p 1 (gap bs), one-add (gap bs)) e
     go false q e = rw add-zero refl
 
--- The bytes of a token already taken.
-past_word : (k p : ℕ) (t : List ℕ) → tokens_from k p t ≡ tokens_from 0 (p + k) (drop k t)
-unfolding tokens_from
-past_word zero p t = rw add-zero refl
-past_word (suc k) p [] = refl
-past_word (suc k) p (b ∷ bs) = let e : p + suc k ≡ p + 1 + k = omega arith in rw e (past_word k (p + 1) bs)
-
 -- A token that starts at once.
 at_word : (p b : ℕ) (bs : List ℕ) → blank b ≡ false
     → tokens_from 0 p (b ∷ bs)
     ≡ record { place = p; bytes = take (word (b ∷ bs)) (b ∷ bs) } ∷ tokens_from 0 (p + word (b ∷ bs)) (drop (word (b ∷ bs)) (b ∷ bs))
 unfolding tokens_from solid
 at_word p b bs e =
-    let n : p + suc (word bs) ≡ p + 1 + word bs = omega arith in rw (tokens_from, e, one-add (word bs), n) (ap (λ ts. record { place = p; bytes = b ∷ take (word bs) bs } ∷ ts) (past_word (word bs) (p + 1) bs))
+    let n : p + suc (word bs) ≡ p + 1 + word bs = omega arith in rw (tokens_from, e, one-add (word bs), n) (ap (λ ts. record { place = p; bytes = b ∷ take (word bs) bs } ∷ ts) (tokens_passed (word bs) (p + 1) bs))
 
 pub no_token : (t : List ℕ) (p : ℕ) → length t ≤ p + gap (drop p t) → tokens_at p t ≡ []
 unfolding tokens_from

@@ -1,12 +1,10 @@
 -- Laws of tests over a row: turn by turn for loops, and by membership for theorems.
-use mathlib.Core.Path.{◌≡◌, refl, sym, ap, ◌∙◌}
-use mathlib.Core.Bool.{Bool, true, false, cond, ◌&&◌, ◌||◌, not}
+use Rattle.std.proofs.Common.{◌≡◌, Bool, true, false, not, List, [], ◌∷◌, map, filter, sym, refl, ap, ◌∙◌, ⊎_elim, rules}
 use mathlib.Core.List.Memᴰ
-use mathlib.Core.List.{List, [], ◌∷◌, map, Memᴰ}
-use mathlib.Core.Logic.{◌⊎◌, inl, inr, ⊎_elim}
-use Rattle.std.specs.List.{list_any, list_all, filter}
+use mathlib.Core.List.{Memᴰ}
+use Rattle.std.specs.List.{list_any, list_all}
+use Rattle.std.proofs.lemmas.Bool.{and_parts, and_from, or_cases, or_left, or_right, cond_both, false_from_ne_true, both_ways}
 use Rattle.ways.specs.Ways.{oddly}
-use Rattle.std.proofs.lemmas.Bool.{and_parts, and_from, or_cases, or_left, or_right}
 use Rattle.ways.proofs.Bools.{clash_of}
 
 module _ {X : Type 0} (p : X → Bool) where
@@ -22,11 +20,7 @@ module _ {X : Type 0} (p : X → Bool) where
 
   pub list_any-mem : (xs : List X) → list_any p xs ≡ true → (x : X) × Memᴰ x xs × (p x ≡ true)
   list_any-mem [] e = clash_of (sym e)
-  list_any-mem (y ∷ xs) e = go (or_cases (p y) (list_any p xs) e) (list_any-mem xs)
-    where
-      go : (p y ≡ true) ⊎ (list_any p xs ≡ true) → (list_any p xs ≡ true → (x : X) × Memᴰ x xs × (p x ≡ true)) → (x : X) × Memᴰ x (y ∷ xs) × (p x ≡ true)
-      go (inl q) r = (y, Memᴰ.head refl, q)
-      go (inr q) r = let (x, m, e) = r q in (x, Memᴰ.tail m, e)
+  list_any-mem (y ∷ xs) e = ⊎_elim (λ q. (y, Memᴰ.head refl, q)) (λ q. let (x, m, r) = list_any-mem xs q in (x, Memᴰ.tail m, r)) (or_cases (p y) (list_any p xs) e)
 
   pub mem-list_any : (xs : List X) (x : X) → Memᴰ x xs → p x ≡ true → list_any p xs ≡ true
   mem-list_any [] x i e = elim i [ ]
@@ -34,29 +28,20 @@ module _ {X : Type 0} (p : X → Bool) where
   mem-list_any (y ∷ xs) x (Memᴰ.tail m) e = or_right (p y) (list_any p xs) (mem-list_any xs x m e)
 
   pub none_of : (xs : List X) → list_any p xs ≡ false → (x : X) → Memᴰ x xs → p x ≡ false
-  none_of xs e x i = go (p x) refl
-    where
-      go : (b : Bool) → p x ≡ b → b ≡ false
-      go true q = clash_of (sym (mem-list_any xs x i q) ∙ e)
-      go false q = refl
+  none_of xs e x i = false_from_ne_true (p x) (λ q. both_ways (list_any p xs) e (mem-list_any xs x i q))
 
   -- What is kept passed the test and was there.
   pub filter-mem : (xs : List X) (x : X) → Memᴰ x (filter p xs) → Memᴰ x xs × (p x ≡ true)
   filter-mem [] x m = absurd (Memᴰ.not-nil m)
-  filter-mem (y ∷ xs) x m = go (p y) refl (filter-mem xs x) m
-    where
-      go : (b : Bool) → p y ≡ b → (Memᴰ x (filter p xs) → Memᴰ x xs × (p x ≡ true)) → Memᴰ x (cond b (y ∷ filter p xs) (filter p xs)) → Memᴰ x (y ∷ xs) × (p x ≡ true)
-      go true e r k = ⊎_elim (λ q. (Memᴰ.head q, ap p q ∙ e)) (λ k. (Memᴰ.tail (r k).0, (r k).1)) (Memᴰ.cases_cons k)
-      go false e r k = (Memᴰ.tail (r k).0, (r k).1)
+  filter-mem (y ∷ xs) x m =
+      let later : Memᴰ x (filter p xs) → Memᴰ x (y ∷ xs) × (p x ≡ true) = λ k. let (i, t) = filter-mem xs x k in (Memᴰ.tail i, t) in
+      cond_both (p y) (y ∷ filter p xs) (filter p xs) (λ zs. Memᴰ x zs → Memᴰ x (y ∷ xs) × (p x ≡ true))
+      (λ e k. ⊎_elim (λ q. (Memᴰ.head q, ap p q ∙ e)) later (Memᴰ.cases_cons k)) (λ e. later) m
 
   pub mem-filter : (xs : List X) (x : X) → Memᴰ x xs → p x ≡ true → Memᴰ x (filter p xs)
   mem-filter [] x i e = elim i [ ]
   mem-filter (y ∷ xs) x (Memᴰ.head q) e = rw (ap p (sym q) ∙ e) (Memᴰ.head q)
-  mem-filter (y ∷ xs) x (Memᴰ.tail i) e = go (p y) (mem-filter xs x i e)
-    where
-      go : (b : Bool) → Memᴰ x (filter p xs) → Memᴰ x (cond b (y ∷ filter p xs) (filter p xs))
-      go true k = Memᴰ.tail k
-      go false k = k
+  mem-filter (y ∷ xs) x (Memᴰ.tail i) e = cond_both (p y) _ _ (Memᴰ x) (λ _. Memᴰ.tail (mem-filter xs x i e)) (λ _. mem-filter xs x i e)
 
 -- Tests that agree on a row's elements agree on the row.
 module _ {X : Type 0} (p q : X → Bool) where
@@ -89,16 +74,8 @@ module _ {X Y : Type 0} (f : X → Y) (p : Y → Bool) where
 module _ {X : Type 0} (p : X → Bool) where
   pub list_all-not : (xs : List X) → list_all (λ x. not (p x)) xs ≡ not (list_any p xs)
   list_all-not [] = refl
-  list_all-not (x ∷ xs) = rw (list_all-not xs) (go (p x) (list_any p xs))
-    where
-      go : (a b : Bool) → (not a && not b) ≡ not (a || b)
-      go true b = refl
-      go false b = refl
+  list_all-not (x ∷ xs) = rw (list_all-not xs) (search rules)
 
   pub list_any-not : (xs : List X) → list_any (λ x. not (p x)) xs ≡ not (list_all p xs)
   list_any-not [] = refl
-  list_any-not (x ∷ xs) = rw (list_any-not xs) (go (p x) (list_all p xs))
-    where
-      go : (a b : Bool) → (not a || not b) ≡ not (a && b)
-      go true b = refl
-      go false b = refl
+  list_any-not (x ∷ xs) = rw (list_any-not xs) (search rules)

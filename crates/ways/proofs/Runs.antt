@@ -1,12 +1,9 @@
 -- Laws of folds and of passes: what a step keeps the whole keeps, and when passes end by themselves.
-use Prim.Native.Nat.{ℕ, zero, suc, ◌+◌, ◌≤◌, ◌<◌}
-use mathlib.Core.Path.{◌≡◌, refl, sym, ap, ◌∙◌, subst}
-use mathlib.Core.Bool.{Bool, ◌&&◌, ◌||◌, and-true, or-false, and_assoc, or_assoc}
-use mathlib.Core.List.{List, [], ◌∷◌, Memᴰ}
-use mathlib.Core.Logic.{◌⊎◌, inl, inr, ⊎_elim}
-use native.Mathlib.Omega.{arith}
-use Rattle.std.specs.List.{fold, list_any, list_all}
+use Rattle.std.proofs.Common.{◌≡◌, ℕ, zero, suc, ◌+◌, ◌<◌, ◌≤◌, Bool, ◌&&◌, ◌||◌, ◌⊎◌, List, [], ◌∷◌, fold, sym, refl, ap, ◌∙◌, subst, inl, ⊎_elim, arith}
+use mathlib.Core.List.{Memᴰ}
 use Rattle.std.specs.Fn.{iterate}
+use Rattle.std.specs.List.{list_any, list_all}
+use Rattle.std.proofs.Math.Bool.{and-true, or-false, and_assoc, or_assoc}
 
 module _ {S X : Type 0} (step : S → X → S) where
   -- What each step keeps, the whole keeps.
@@ -29,25 +26,10 @@ module _ {S X : Type 0} (step : S → X → S) where
   module _ (size : S → ℕ) (grows : (s : S) (x : X) → (step s x ≡ s) ⊎ (size s < size (step s x))) where
     pub fold_grows : (xs : List X) (s : S) → (fold step s xs ≡ s) ⊎ (size s < size (fold step s xs))
     fold_grows [] s = inl refl
-    fold_grows (x ∷ xs) s = go (grows s x) (fold_grows xs (step s x))
-      where
-        go : (step s x ≡ s) ⊎ (size s < size (step s x)) → (fold step (step s x) xs ≡ step s x) ⊎ (size (step s x) < size (fold step (step s x) xs))
-            → (fold step (step s x) xs ≡ s) ⊎ (size s < size (fold step (step s x) xs))
-        go (inl e) (inl f) = inl (f ∙ e)
-        go (inl e) (inr f) = inr (subst (λ t. size t < size (fold step (step s x) xs)) e f)
-        go (inr e) (inl f) = inr (rw f e)
-        go (inr e) (inr f) = inr (omega arith)
+    fold_grows (x ∷ xs) s = grind (arith, grows s x, fold_grows xs (step s x))
 
     first_still : (y : X) (xs : List X) (s : S) → fold step (step s y) xs ≡ s → step s y ≡ s
-    first_still y xs s e = go (grows s y) (fold_grows xs (step s y))
-      where
-        go : (step s y ≡ s) ⊎ (size s < size (step s y)) → (fold step (step s y) xs ≡ step s y) ⊎ (size (step s y) < size (fold step (step s y) xs)) → step s y ≡ s
-        go (inl h) k = h
-        go (inr h) (inl k) = sym k ∙ e
-        go (inr h) (inr k) = absurd (no (ap size e))
-          where
-            no : size (fold step (step s y) xs) ≡ size s → ⊥
-            no q = omega arith
+    first_still y xs s e = grind (arith, grows s y, fold_grows xs (step s y), e)
 
     pub fold_still : (xs : List X) (s : S) → fold step s xs ≡ s → (x : X) → Memᴰ x xs → step s x ≡ s
     fold_still [] s e x i = elim i [ ]
@@ -67,10 +49,7 @@ module _ {S : Type 0} (pass : S → S) where
   pub iterate_closed :
       (I : S → Type 0) → ((s : S) → I s → I (pass s)) → (size : S → ℕ) (top : ℕ) → ((s : S) → I s → size s ≤ top)
       → ((s : S) → (pass s ≡ s) ⊎ (size s < size (pass s))) → (k : ℕ) (s : S) → I s → top ≤ k + size s → pass (iterate pass k s) ≡ iterate pass k s
-  iterate_closed I keep size top b g zero s i h = ⊎_elim (λ e. e) (λ l. absurd (no (b (pass s) (keep s i)) l h)) (g s)
-    where
-      no : size (pass s) ≤ top → size s < size (pass s) → top ≤ 0 + size s → ⊥
-      no x y z = omega arith
+  iterate_closed I keep size top b g zero s i h = ⊎_elim (λ e. e) (λ l. absurd (omega (arith, b (pass s) (keep s i), l, h))) (g s)
   iterate_closed I keep size top b g (suc k) s i h =
       ⊎_elim
       (λ e. let a = iterate_stays k (pass s) (ap pass e) in ap pass a ∙ ap pass e ∙ sym a)

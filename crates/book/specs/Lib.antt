@@ -1,0 +1,2 @@
+-- What the calls over a book answer.
+pub mod Answers

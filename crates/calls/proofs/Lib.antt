@@ -1,0 +1,1 @@
+-- Laws of what every call begins with.

@@ -1,0 +1,1 @@
+-- What every call begins with: words of its own.

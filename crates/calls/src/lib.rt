@@ -1,0 +1,4 @@
+// What every call over a table and a book begins with.
+#![tactic(auto)]
+
+pub mod opening;

@@ -1,0 +1,1 @@
+-- What the rounds' code has of its own.

@@ -1,0 +1,1 @@
+-- Laws of the rules that the code cites.
