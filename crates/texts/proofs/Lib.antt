@@ -9,3 +9,4 @@ pub mod TokenSteps
 pub mod NumeralSteps
 pub mod HeaderSteps
 pub mod BodySteps
+pub mod RowSteps

@@ -2,11 +2,13 @@
 ghost use Rattle.std.specs.Prelude.{◌≡◌, ◌≤◌, Ok, length};
 ghost use Rattle.std.specs.Result.{result_and};
 ghost use Rattle.texts.specs.Tokens.{tokens_at};
-ghost use Rattle.texts.specs.Body.{body_from};
+ghost use Rattle.texts.specs.Body.{body_from, entries};
+ghost use Rattle.texts.specs.Buffer.{overlay};
 
 use crate::header::Header;
+use crate::numerals::entry_of;
 use crate::tally::Tally;
-use crate::tokens::next_token;
+use crate::tokens::{bytes_of, next_token};
 use tables::numbers::Refusal;
 
 /// Judges what follows the header line, in one pass: how many entries it says, or the first reason to refuse it.
@@ -29,5 +31,21 @@ pub fn judge_body(text: &[u8], header: Header) -> Result<usize, Refusal>
         Ok(tally.entries)
     } else {
         Err(Refusal::Undeclared(text.len()))
+    }
+}
+
+/// Reads what follows the header line into the front of a row, entry by entry, as far as the row goes.
+#[tactic(auto, using(crate::proofs::RowSteps::overlay_past), unfolding(crate::specs::Buffer::overlay, crate::specs::Body::entry_of))]
+pub fn read_body(text: &[u8], from: usize, row: &mut [i32])
+    requires { from ≤ length text.now }
+    ensures { row.new ≡ overlay row.old 0 (entries (tokens_at from text.now)) }
+{
+    let mut place = from;
+    for cell in row.iter_mut() {
+        let Some(token) = next_token(text, place) else {
+            return;
+        };
+        *cell = entry_of(bytes_of(text, token));
+        place = token.end;
     }
 }

@@ -1,6 +1,9 @@
 // Numbers in clause text.
-ghost use Rattle.std.specs.Prelude.{◌≡◌, ◌<◌, ◌≤◌, ◌^◌, length, IfSome};
+ghost use Rattle.std.specs.Prelude.{◌≡◌, ◌<◌, ◌≤◌, ◌^◌, length, unwrap_or, IfSome};
+ghost use Rattle.tables.specs.Literal.{entry};
 ghost use Rattle.texts.specs.Numbers.{digits, natural, number};
+
+use tables::literal::entry;
 
 /// The most digits of a number.
 const MOST_DIGITS: usize = 9;
@@ -47,4 +50,11 @@ pub fn number(word: &[u8]) -> Option<usize>
         [b'-', digits @ ..] => natural(digits).filter(|&v| v != 0).map(|v| 2 * v + 1),
         _ => natural(word).map(|v| 2 * v),
     }
+}
+
+/// The entry that a number in a clause says: 0 where it is no number.
+pub fn entry_of(word: &[u8]) -> i32
+    ensures { result ≡ entry (unwrap_or (number word.now) 0) }
+{
+    entry(number(word).unwrap_or(0))
 }
