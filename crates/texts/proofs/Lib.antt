@@ -10,3 +10,4 @@ pub mod NumeralSteps
 pub mod HeaderSteps
 pub mod BodySteps
 pub mod RowSteps
+pub mod WriteSteps

@@ -3,6 +3,7 @@
 
 pub mod body;
 pub mod bytes;
+pub mod decimal;
 pub mod header;
 pub mod numerals;
 pub mod reading;
