@@ -32,6 +32,10 @@ module _ {X : Type 0} where
   overlay-append old p (x ∷ xs) ys =
       let e : p + suc (length xs) ≡ p + 1 + length xs = omega arith in rw e (overlay-append (set old p x) (p + 1) xs ys)
 
+-- What is laid behind a row makes one row with it.
+pub laid_behind : (old mid : List ℕ) (p q : ℕ) (xs ys : List ℕ) → mid ≡ overlay old p xs → q ≡ p + length xs → overlay mid q ys ≡ overlay old p (xs ++ ys)
+laid_behind old mid p q xs ys e f = rw (e, f) (overlay-append old p xs ys)
+
 -- The entries of a text laid over a row that holds them.
 pub entries_front : (ts : List Token) (row : List ℤ) → length ts ≤ length row → overlay row 0 (entries ts) ≡ front (entries ts) row
 entries_front ts row h = overlay_front (entries ts) row (omega (arith, length-map ts entry_of))

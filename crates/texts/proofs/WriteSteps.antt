@@ -3,7 +3,10 @@ use Rattle.std.proofs.Common.{◌≡◌, refl, sym, ap, ◌∙◌, ℕ, zero, su
 use borrow.Author.Tests.{lt-ltb, le-ltb, ltb-false}
 use Rattle.std.proofs.lemmas.List.{drop-set}
 use Rattle.std.proofs.lemmas.Grind.{pow_more}
-use Rattle.texts.specs.Decimal.{digits_of, decimal}
+use Rattle.tables.specs.Literal.{var, neg}
+use Rattle.texts.specs.Buffer.{overlay}
+use Rattle.texts.specs.Decimal.{digits_of, decimal, signed}
+use Rattle.texts.proofs.RowSteps.{laid_behind}
 
 -- A number below 10 is one digit, and v digits are enough for every other.
 one_digit : (f v : ℕ) → v < 10 → digits_of f v ≡ (48 + v) ∷ []
@@ -47,3 +50,8 @@ pub two_left : (v i : ℕ) → 10 ≤ v → v < 10 ^ i → 2 ≤ i
 two_left v zero h k = absurd (omega arith)
 two_left v (suc zero) h k = absurd (omega arith)
 two_left v (suc (suc i)) h k = omega arith
+
+-- A minus sign, and the digits behind it.
+pub minus_laid : (old mid : List ℕ) (p q l : ℕ) → neg l ≡ true → mid ≡ overlay old p (45 ∷ []) → q ≡ p + 1 → overlay mid q (decimal (var l)) ≡ overlay old p (signed l)
+unfolding signed
+minus_laid old mid p q l e f g = laid_behind old mid p q (45 ∷ []) (decimal (var l)) f g ∙ rw (signed, e) refl

@@ -11,4 +11,5 @@ pub mod Buffer
 pub mod Reading
 pub mod Decimal
 pub mod Writing
+pub mod Pieces
 pub mod Cases

@@ -6,6 +6,7 @@ pub mod bytes;
 pub mod decimal;
 pub mod header;
 pub mod numerals;
+pub mod pieces;
 pub mod reading;
 pub mod tally;
 pub mod tokens;
