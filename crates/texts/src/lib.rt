@@ -10,3 +10,4 @@ pub mod pieces;
 pub mod reading;
 pub mod tally;
 pub mod tokens;
+pub mod writing;
