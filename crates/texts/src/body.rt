@@ -15,7 +15,8 @@ use tables::numbers::Refusal;
 #[tactic(auto, using(crate::proofs::BodySteps::body_ok, crate::proofs::BodySteps::body_err, crate::proofs::BodySteps::one_entry), unfolding(crate::specs::Body::body_from))]
 pub fn judge_body(text: &[u8], header: Header) -> Result<usize, Refusal>
     requires { header.end ≤ length text.now }
-    ensures { result ≡ result_and (body_from header.variables header.clauses (length text.now) 0 0 0 (tokens_at header.end text.now)) (Ok (length (tokens_at header.end text.now))) }
+    ensures { let tokens = tokens_at header.end text.now in
+        result ≡ result_and (body_from header.variables header.clauses (length text.now) 0 0 0 tokens) (Ok (length tokens)) }
 {
     let mut tally = Tally {
         entries: 0,

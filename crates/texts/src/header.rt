@@ -45,7 +45,8 @@ fn remarks(text: &[u8]) -> usize
 fn after_word(line: &[u8], from: usize, wanted: &[u8]) -> Result<usize, Refusal>
     requires { from ≤ length line.now }
     ensures within { IfOk result (λ end. end ≤ length line.now) }
-    ensures is { MatchResult result (λ end. after_word (length line.now) wanted.now (tokens_at from line.now) ≡ Ok (tokens_at end line.now)) (λ why. after_word (length line.now) wanted.now (tokens_at from line.now) ≡ Err why) }
+    ensures is { let left = after_word (length line.now) wanted.now (tokens_at from line.now) in
+        MatchResult result (λ end. left ≡ Ok (tokens_at end line.now)) (λ why. left ≡ Err why) }
 {
     match next_token(line, from) {
         None => Err(Refusal::Unreadable(line.len())),
@@ -59,7 +60,8 @@ fn after_word(line: &[u8], from: usize, wanted: &[u8]) -> Result<usize, Refusal>
 fn after_size(line: &[u8], from: usize, most: usize) -> Result<(usize, usize), Refusal>
     requires { from ≤ length line.now }
     ensures within { IfOk result (λ size. size.1 ≤ length line.now) }
-    ensures is { MatchResult result (λ size. after_size (length line.now) most (tokens_at from line.now) ≡ Ok (size.0, tokens_at size.1 line.now)) (λ why. after_size (length line.now) most (tokens_at from line.now) ≡ Err why) }
+    ensures is { let left = after_size (length line.now) most (tokens_at from line.now) in
+        MatchResult result (λ size. left ≡ Ok (size.0, tokens_at size.1 line.now)) (λ why. left ≡ Err why) }
 {
     let Some(token) = next_token(line, from) else {
         return Err(Refusal::Unreadable(line.len()));

@@ -10,10 +10,12 @@ use tables::literal::var;
 use tables::numbers::Refusal;
 use tables::sizes::{MOST_ENTRIES, MOST_LITERALS};
 
+/// The counts so far.
 #[derive(Clone, Copy, Debug, PartialEq, Eq)]
 pub struct Tally {
-    /// The numbers so far, the zeros among them.
+    /// The numbers, the zeros among them.
     pub entries: usize,
+    /// The zeros: the clauses that are ended.
     pub zeros: usize,
     /// The literals of the open clause.
     pub literals: usize,
@@ -31,20 +33,16 @@ impl Tally {
         if self.zeros >= header.clauses || var(number) > header.variables {
             return Err(Refusal::Undeclared(place));
         }
-        let entries = self.entries + 1;
-        if number == 0 {
-            Ok(Tally {
-                entries,
-                zeros: self.zeros + 1,
-                literals: 0,
-            })
+        let (zeros, literals) = if number == 0 {
+            (self.zeros + 1, 0)
         } else {
-            Ok(Tally {
-                entries,
-                zeros: self.zeros,
-                literals: self.literals + 1,
-            })
-        }
+            (self.zeros, self.literals + 1)
+        };
+        Ok(Tally {
+            entries: self.entries + 1,
+            zeros,
+            literals,
+        })
     }
 
     /// Judges the next token, and counts it.

@@ -19,7 +19,8 @@ pub struct Span {
 #[tactic(auto, using(crate::proofs::TokenSteps::no_token, crate::proofs::TokenSteps::one_token, crate::proofs::TokenSteps::word_some))]
 pub fn next_token(text: &[u8], from: usize) -> Option<Span>
     requires { from ≤ length text.now }
-    ensures is { MatchOption result (tokens_at from text.now ≡ []) (λ s. tokens_at from text.now ≡ token_in text.now s ∷ tokens_at s.end text.now) }
+    ensures is { let tokens = tokens_at from text.now in
+        MatchOption result (tokens ≡ []) (λ s. tokens ≡ token_in text.now s ∷ tokens_at s.end text.now) }
     ensures within { IfSome result (λ s. (from ≤ s.start) × (s.start < s.end) × (s.end ≤ length text.now)) }
 {
     let start = from + gap(text.split_at(from).1);
