@@ -1,4 +1,4 @@
--- Dependence in 01's words, and that the marks of the definition are it.
+-- Dependence in the rules' words, and that the marks of the definition are it.
 use Rattle.std.proofs.Common.{◌≡◌, ℕ, ◌+◌, ◌<◌, true, List, set, replicate, fold, sym, ap, ◌∙◌, ⊎_elim, length-set}
 use mathlib.Core.List.{Memᴰ}
 use Rattle.std.proofs.lemmas.Bool.{cond_both}
@@ -13,7 +13,7 @@ use Rattle.rules.specs.Taking.{touched, depend_step, dependents}
 use Rattle.settling.proofs.Forced.{set_was, none_marked}
 use Rattle.circuits.proofs.Order.{Ordered, closed, mark_stays, own_mark}
 
--- dependence in the paper's words: v is o, or the output of a gate one of whose inputs depends on o
+-- dependence in the rules' words: v is o, or the output of a gate one of whose inputs depends on o
 pub data Depends (gs : List Gate) (o : ℕ) : ℕ → Type 0 where
   itself : {v : ℕ} → v ≡ o → Depends gs o v
   through : {v : ℕ} (g : Gate) → Memᴰ g gs → v ≡ g.output → (x : ℕ) → Memᴰ x g.inputs → Depends gs o (var x) → Depends gs o v

@@ -1,4 +1,4 @@
--- The gates taken, by any rule that allows no more than 01's: each is found in the settled table, says what its pattern says,
+-- The gates taken, by any rule that allows no more than the first edition: each is found in the settled table, says what its pattern says,
 -- and together they stand in an order of evaluation.
 use Rattle.std.proofs.Common.{◌≡◌, ℕ, ◌*◌, ◌≤◌, Bool, true, false, cond, not, ltb, ◌⊎◌, ◌↔◌, List, [], ◌∷◌, map, length, filter, sym, refl, ap, ◌∙◌, subst, inl, inr, ⊎_elim, arith}
 use mathlib.Core.List.Memᴰ
@@ -111,7 +111,7 @@ module _ (n : ℕ) (cs : List (List ℕ)) (inside : Inside n cs) (proper : (c : 
       new h (inr (Memᴰ.head q)) = subst (Valid n cs) (sym q) v
       new h (inr (Memᴰ.tail j)) = t.valid h (filter-mem (λ f. marked D f.output) gs h j).0
 
-  -- A rule of choice that allows no more than 01's.
+  -- A rule of choice that allows no more than the first edition.
   module _ (may : List Gate → Gate → Bool) (strict : (gs : List Gate) (g : Gate) → may gs g ≡ true → allowed n gs g ≡ true) where
     first_taken : (gs more : List Gate) → ((g : Gate) → Memᴰ g more → Valid n cs g) → Taken gs → Taken (take_first may n gs more)
     unfolding take_first

@@ -9,6 +9,9 @@ use Rattle.tables.specs.declared.numbers.Refusal.{Refusal}
 use Rattle.tables.specs.declared.numbers.Refusal.TheVariants.{Contradiction, OutOfRange, BookFull, ShortBuffer, ShortWork}
 use Rattle.tables.proofs.Checked.{refused_number}
 use Rattle.texts.specs.Buffer.{leaves}
+use Rattle.texts.specs.Reading.{reading, row_after}
+use Rattle.texts.specs.Writing.{writing, buffer_after}
+use Rattle.std.specs.Prelude.{Result}
 use Rattle.rules.specs.Rounds.{Outcome, impossible, settled}
 use Rattle.rules.specs.Pins.{in_force, out_of_range, book_long}
 use Rattle.rules.specs.Calls.{work_short, held_bad, outcome_of, contradiction, rounds_in, listed, build_verdict, build, build_listing, fill_verdict, fill_values}
@@ -83,15 +86,17 @@ four_is_contradiction n t b work room why e four =
     (record { good = good; in_range = held_range n t b work room held }, last why four (outcome_of n t b) (ltb room bytes) bytes k4)
 
 -- A refusal leaves a buffer and a book as they were.
-left : (v : Verdict) (new buffer : List ℕ) (why : Refusal) → v ≡ Err why → leaves v new buffer ≡ buffer
+left : {T X : Type 0} (answer : Result T Refusal) (new buffer : List X) (why : Refusal) → answer ≡ Err why → leaves answer new buffer ≡ buffer
 unfolding leaves
-left v new buffer why e = rw e
+left answer new buffer why e = rw e
 
 pub refusal_keeps : RefusalKeeps
-unfolding build_listing fill_values
-refusal_keeps n t b work given buffer x why = (
+unfolding build_listing fill_values buffer_after row_after
+refusal_keeps n t b work given buffer text x why = (
   left (build_verdict n t b work (length buffer)) _ buffer why,
   left (fill_verdict n t b work given (length buffer)) _ buffer why,
   λ e. rw e,
   λ e. rw e,
+  left (writing n t (length buffer)) _ buffer why,
+  left (reading text (length t)) _ t why,
 )

@@ -75,7 +75,7 @@ pub links_to_roots : LinksToRoots
 unfolding root
 links_to_roots n t pins r st cs s v e = let ends = settled_ends n t pins s.lent r st cs s.comes in eq-eqb _ _ (ends.2.good.rooted v)
 
--- 01's own rule allows what it allows.
+-- The rules' own test allows what it allows.
 strict : (n : ℕ) (gs : List Gate) (g : Gate) → allowed n gs g ≡ true → allowed n gs g ≡ true
 strict n gs g e = e
 

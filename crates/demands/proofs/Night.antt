@@ -11,7 +11,7 @@ use Rattle.tables.specs.Numbers.{Verdict, refuse, first_refusal}
 use Rattle.tables.specs.declared.numbers.Refusal.{Refusal}
 use Rattle.tables.specs.declared.numbers.Refusal.TheVariants.{BookFull, NothingHeld}
 use Rattle.rules.specs.Pins.{in_force, empty_book, with_pin, without_last, book_long, book_after, take_back}
-use Rattle.rules.specs.Calls.{held_bad, outcome_of, build_verdict, build, build_listing, pin_verdict, pin}
+use Rattle.rules.specs.Calls.{ask, ask_verdict, build, build_listing, build_verdict, fill_values, fill_verdict, held_bad, outcome_of, pin, pin_verdict}
 use Rattle.rules.specs.declared.book.Book.{Book}
 use Rattle.demands.specs.Night.{Move, put, back, answer, stacked, Desk, opening, move, after, StackHeld, StackDecides, TakeBackUndoes}
 use Rattle.demands.proofs.Verdicts.{all_accept, refuse_accepts}
@@ -117,11 +117,29 @@ module _ (b c : Book) (same : in_force b ≡ in_force c) (few : b.held ≤ 64) (
   unfolding build_listing
   listing_same buffer = rw (verdict_same (length buffer), outcome_same)
 
+  pub fill_same : (given : List ℕ) (room : ℕ) → fill_verdict n t b work given room ≡ fill_verdict n t c work given room
+  unfolding fill_verdict
+  fill_same given room = rw (outcome_same, long_same, bad_same)
+
+  pub values_same : (given buffer : List ℕ) → fill_values n t b work given buffer ≡ fill_values n t c work given buffer
+  unfolding fill_values
+  values_same given buffer = rw (fill_same given (length buffer), outcome_same)
+
+  pub ask_same : (given : List ℕ) (v : ℕ) → ask n t b work given v ≡ ask n t c work given v
+  unfolding ask ask_verdict
+  ask_same given v = rw (outcome_same, long_same, bad_same)
+
 pub stack_decides : StackDecides
-stack_decides ms ks e n t work buffer =
+stack_decides ms ks e n t work given buffer v =
     let h = night_held ms in let k = night_held ks in
-    let same = h.same ∙ e ∙ sym k.same in
-    (build_same (after ms).book (after ks).book same h.few k.few n t work (length buffer), listing_same (after ms).book (after ks).book same h.few k.few n t work buffer)
+    let b = (after ms).book in let c = (after ks).book in
+    let same = h.same ∙ e ∙ sym k.same in (
+      build_same b c same h.few k.few n t work (length buffer),
+      listing_same b c same h.few k.few n t work buffer,
+      fill_same b c same h.few k.few n t work given (length buffer),
+      values_same b c same h.few k.few n t work given buffer,
+      ask_same b c same h.few k.few n t work given v,
+    )
 
 -- What is laid on top and taken away leaves the stack as it was.
 off_again : (s : List ℤ) (x : ℤ) → take (length (s ++ (x ∷ [])) - 1) (s ++ (x ∷ [])) ≡ s

@@ -1,5 +1,5 @@
 -- An evening that is settled: the situation that most statements speak of. It assumes nothing but that the table and the
--- pins are in 01's sizes, and that the rounds end without a contradiction.
+-- pins are in the sizes, and that the rounds end without a contradiction.
 use Rattle.std.specs.Prelude.{ℕ, ◌≡◌, true, not, List, ℤ, Ok}
 use Rattle.std.specs.List.{list_all}
 use Rattle.tables.specs.Check.{checked}

@@ -1,5 +1,6 @@
 -- What was promised to the desk and to the inspector, as statements about the definitions alone.
 pub mod Evening
+pub mod Forced
 pub mod Demands
 pub mod Night
 pub mod Answers

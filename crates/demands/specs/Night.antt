@@ -3,7 +3,7 @@ use Rattle.std.specs.Prelude.{ℕ, ◌-◌, ◌≡◌, List, [], ◌∷◌, ◌+
 use Rattle.std.specs.List.{fold}
 use Rattle.tables.specs.declared.numbers.Refusal.{Refusal}
 use Rattle.rules.specs.Pins.{in_force, empty_book, take_back, book_after}
-use Rattle.rules.specs.Calls.{build, build_listing, pin}
+use Rattle.rules.specs.Calls.{build, build_listing, fill_verdict, fill_values, ask, pin}
 use Rattle.rules.specs.declared.book.Book.{Book}
 
 -- A pin of a literal, with the table and the length of the work buffer that are lent for it; or a take-back.
@@ -39,13 +39,16 @@ after ms = fold move opening ms
 abbrev pub StackHeld : Type 0
 StackHeld = (ms : List Move) → in_force (after ms).book ≡ (after ms).stack
 
--- THE TAKE-BACK: two runs that leave the same pins on the stack give the same build, listing and all, of every table. So after
--- a take-back the plan is the one without the pin.
+-- THE TAKE-BACK: two runs that leave the same pins on the stack give the same build, listing and all, the same fill and the same
+-- answer to every question, of every table. So after a take-back the plan is the one without the pin.
 abbrev pub StackDecides : Type 0
 StackDecides =
-    (ms ks : List Move) → (after ms).stack ≡ (after ks).stack → (n : ℕ) (t : List ℤ) (work : ℕ) (buffer : List ℕ)
+    (ms ks : List Move) → (after ms).stack ≡ (after ks).stack → (n : ℕ) (t : List ℤ) (work : ℕ) (given buffer : List ℕ) (v : ℕ)
     → (build n t (after ms).book work (length buffer) ≡ build n t (after ks).book work (length buffer))
     × (build_listing n t (after ms).book work buffer ≡ build_listing n t (after ks).book work buffer)
+    × (fill_verdict n t (after ms).book work given (length buffer) ≡ fill_verdict n t (after ks).book work given (length buffer))
+    × (fill_values n t (after ms).book work given buffer ≡ fill_values n t (after ks).book work given buffer)
+    × (ask n t (after ms).book work given v ≡ ask n t (after ks).book work given v)
 
 abbrev pub TakeBackUndoes : Type 0
 TakeBackUndoes =

@@ -1,4 +1,4 @@
--- What each public call answers, for every input, and what the lent memory holds afterwards: the refusals in 01's order,
+-- What each public call answers, for every input, and what the lent memory holds afterwards: the refusals in the rules' order,
 -- each with its number and place. The calls on clause text stand beside its definitions.
 use Rattle.std.specs.Prelude.{ℕ, ◌-◌, Bool, ◌&&◌, ◌||◌, List, [], ◌∷◌, ◌++◌, ℤ, pos, length, get_or, replicate, eqb, leb, ltb, Result, Ok, Err}
 use Rattle.std.specs.List.{list_any, filter, range_with_len}

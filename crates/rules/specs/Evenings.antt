@@ -1,4 +1,4 @@
--- The evenings: 01's starred cases, its example of road 4, its night with the pin book, and one case for each slip "that a yard
+-- The evenings: the rules' starred cases, the example of road 4, the night with the pin book, and one case for each slip "that a yard
 -- would not notice" and that none of those shows. One list, and one statement that runs the definitions over it: what the
 -- builder prints, byte for byte.
 use Rattle.std.specs.Prelude.{ℕ, ◌≡◌, refl, Bool, true, List, [], ◌∷◌, ◌++◌, ℤ, pos, negsuc, Result, Ok, Err, codes}
@@ -34,7 +34,7 @@ use Rattle.rules.specs.Program.{printed, program_on, program}
 use Rattle.tables.specs.declared.numbers.Refusal.{Refusal}
 use Rattle.rules.specs.declared.book.Book.{Book}
 
--- Entries, as 01 writes them.
+-- Entries, as the rules write them.
 abbrev +0 : ℤ
 +0 = pos 0
 

@@ -1,4 +1,4 @@
--- 01's rules, in its order.
+-- The rules from the rounds to the calls, in the order of docs/RULES.md, whose sentences stand above their definitions.
 pub mod Forced
 pub mod Clean
 pub mod Pairs

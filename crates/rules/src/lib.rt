@@ -1,4 +1,4 @@
-// The rules from the rounds to the calls, as definitions: no code yet, only what the calls take and answer.
+// The rules from the rounds to the calls, as definitions, and what the calls take and answer.
 #![tactic(auto)]
 
 pub mod book;

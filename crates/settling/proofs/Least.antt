@@ -1,4 +1,4 @@
--- The forced literals are 01's least set: closed under its rule, and inside every set that is.
+-- The forced literals are the rules' least set: closed under its rule, and inside every set that is.
 use Rattle.std.proofs.Common.{◌≡◌, ℕ, ◌+◌, ◌*◌, ◌<◌, true, false, cond, ◌||◌, eqb, ◌⊎◌, List, length, get_or, set, replicate, fold, count_by, sym, refl, ap, ◌∙◌, subst, inl, inr, ⊎_elim, arith, length-set, get_or-set_same, eq-eqb, ne_eqb, eqb-true}
 use mathlib.Core.List.{Memᴰ}
 use Rattle.std.proofs.lemmas.Bool.{or_cases, or_left, or_right, cond_both, cases_eq, cases_lt}

@@ -41,11 +41,11 @@ insert_rising x (cons {x = y} {xs = ys} h r) =
     (λ m. cons (λ z i. ⊎_elim (λ q. subst (λ t. y < t) (sym q) m) (h z) (insert_in x ys z i)) (insert_rising x r))
 
 -- what a tidied clause is
-record Tidy (c d : List ℕ) : Type 0 where
-  rises : Rising d
-  inside : (l : ℕ) → Memᴰ l d → Memᴰ l c
+pub record Tidy (c d : List ℕ) : Type 0 where
+  pub rises : Rising d
+  pub inside : (l : ℕ) → Memᴰ l d → Memᴰ l c
 
-tidy_is : (m c : List ℕ) → Tidy c (tidy m c)
+pub tidy_is : (m c : List ℕ) → Tidy c (tidy m c)
 unfolding tidy tidy_step
 tidy_is m c =
     fold_keeps (tidy_step m) (Tidy c) c

@@ -1,4 +1,4 @@
--- Sets of literals that are closed under 01's rule for forced literals.
+-- Sets of literals that are closed under the rule for forced literals.
 use Rattle.std.specs.Prelude.{ℕ, ◌≡◌, false}
 use mathlib.Core.List.{List, Memᴰ}
 use Rattle.tables.specs.Literal.{opp}

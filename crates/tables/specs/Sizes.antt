@@ -1,4 +1,4 @@
--- 01, "Sizes".
+-- The sizes.
 use Rattle.std.specs.Prelude.{ℕ}
 
 -- "Variables n: 0 to 1,024, numbered from 1."

@@ -1,4 +1,4 @@
--- Texts and tables, and what 01 says of each. One statement runs the definitions over all of them.
+-- Texts and tables, and what the rules say of each. One statement runs the definitions over all of them.
 use Rattle.std.specs.Prelude.{ℕ, ◌≡◌, refl, Bool, true, false, ◌&&◌, List, [], ◌∷◌, ◌++◌, map, pos, length, replicate, eqb, Result, Ok, Err, codes}
 use Rattle.std.specs.List.{list_all}
 use Prim.Native.String.{String}
@@ -71,7 +71,7 @@ ones = half ++ half
 
 unfoldable pub reads : List Read
 reads =
-    -- 01, "Evenings on both sides of the line"
+    -- the rules, "Evenings on both sides of the line"
     refuses "p cnf 1 1\n01 0" (Unreadable 10)
     ∷ refuses "p cnf 1 1\n2 0" (Undeclared 10)
     ∷ refuses "p cnf 1 1\n1" (Undeclared 11)

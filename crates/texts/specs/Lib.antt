@@ -1,4 +1,4 @@
--- Clause text, in 01's order.
+-- Clause text, in the order of the rules.
 pub mod Bytes
 pub mod Tokens
 pub mod Span

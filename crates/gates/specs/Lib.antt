@@ -1,0 +1,2 @@
+-- What the gates' code has of its own.
+pub mod Sites

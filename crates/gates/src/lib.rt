@@ -1,0 +1,4 @@
+// Gates in code: their patterns found in the settled table, taken without rings, and what they leave.
+#![tactic(auto)]
+
+pub mod site;

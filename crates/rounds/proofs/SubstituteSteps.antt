@@ -1,0 +1,152 @@
+-- Laws of substitution in a row of entries.
+use Rattle.std.proofs.Common.{◌≡◌, refl, sym, ap, subst, ◌∙◌, ℕ, suc, ◌+◌, ◌-◌, ⊎_elim, ◌<◌, ◌≤◌, List, [], ◌∷◌, ◌++◌, length, get_or, set, take, drop, map, arith, ℤ, pos, Bool, true, false, eqb}
+use mathlib.Core.List.Memᴰ
+use mathlib.Core.List.{Memᴰ}
+use borrow.Author.Tests.{eqb-true, eqb-false, eq-eqb, ne_eqb}
+use Rattle.std.proofs.lemmas.List.{map_push, length-map, length-take-le, take_at, get_or_append_left, get_or-map, get_or-take, get_or-append_right, get_or-drop}
+use Rattle.std.proofs.lemmas.List.Elements.{All-head, All-tail, All-map, All-nil, All-cons}
+use Rattle.std.proofs.lemmas.Bool.{cases_lt}
+use Rattle.std.specs.List.{All}
+use Rattle.tables.specs.Literal.{literal, var}
+use Rattle.tables.specs.Clause.{clauses_from, clauses}
+use Rattle.tables.proofs.Literals.{literal-entry, literal_one}
+use Rattle.tables.proofs.Clauses.{clause_ends, clause_grows, All as EachLiteral}
+use Rattle.rules.specs.Pairs.{replace}
+use Rattle.rounds.specs.Substitute.{substituted, Live}
+use Rattle.rounds.specs.Pairs.{Coded}
+use Rattle.rounds.proofs.StandSteps.{map_turns, replace_coded}
+
+pub substitute_turns : (r : List ℕ) (s : List ℤ) (i : ℕ) → i < length s
+    → take i s ++ map (substituted r) (drop i s)
+    ≡ take (i + 1) (set s i (substituted r (get_or s i (pos 0)))) ++ map (substituted r) (drop (i + 1) (set s i (substituted r (get_or s i (pos 0)))))
+substitute_turns r s = map_turns (substituted r) (pos 0) s
+
+-- A zero stays, and no other entry becomes one.
+substituted_zero : (s : List ℕ) (z : ℤ) → literal z ≡ 0 → substituted s z ≡ z
+substituted_zero s z e = rw (eq-eqb (literal z) 0 e) refl
+
+substituted_live : (s : List ℕ) (z : ℤ) → (literal z ≡ 0 → ⊥) → Live s z → literal (substituted s z) ≡ replace s (literal z)
+substituted_live s z e w = rw (ne_eqb (literal z) 0 e) (literal-entry (replace s (literal z)) no)
+  where
+    two : 2 ≤ literal z
+    two = let one = literal_one z in omega arith
+
+    no : replace s (literal z) ≡ 1 → ⊥
+    no q = let h = w two in omega arith
+
+-- One entry, where b has the literals of the open clause and the rest is substituted.
+one_substituted : (s b : List ℕ) (z : ℤ) (zs : List ℤ) → Live s z
+    → ((d : List ℕ) → clauses_from (map (replace s) d) (map (substituted s) zs) ≡ map (map (replace s)) (clauses_from d zs))
+    → clauses_from (map (replace s) b) (substituted s z ∷ map (substituted s) zs) ≡ map (map (replace s)) (clauses_from b (z ∷ zs))
+one_substituted s b z zs w rest = go (eqb (literal z) 0) refl
+  where
+    go : (t : Bool) → eqb (literal z) 0 ≡ t
+        → clauses_from (map (replace s) b) (substituted s z ∷ map (substituted s) zs) ≡ map (map (replace s)) (clauses_from b (z ∷ zs))
+    go true q =
+        let e = eqb-true (literal z) 0 q in
+        rw (substituted_zero s z e, clause_ends (map (replace s) b) z (map (substituted s) zs) e, clause_ends b z zs e, ← rest []) refl
+    go false q =
+        let e = eqb-false (literal z) 0 q in
+        let l = substituted_live s z e w in
+        let ne : literal (substituted s z) ≡ 0 → ⊥ = λ n. not_zero e (sym l ∙ n) in
+        clause_grows (map (replace s) b) (substituted s z) (map (substituted s) zs) ne
+        ∙ rw (l, clause_grows b z zs e, ← rest (b ++ (literal z ∷ [])), map_push) refl
+      where
+        not_zero : (literal z ≡ 0 → ⊥) → replace s (literal z) ≡ 0 → ⊥
+        not_zero e n = let one = literal_one z in let two : 2 ≤ literal z = omega arith in let h = w two in omega arith
+
+from_substituted : (s : List ℕ) (row : List ℤ) → All (Live s) row → (b : List ℕ)
+    → clauses_from (map (replace s) b) (map (substituted s) row) ≡ map (map (replace s)) (clauses_from b row)
+unfolding clauses_from
+from_substituted s [] w b = refl
+from_substituted s (z ∷ zs) w b = one_substituted s b z zs (All-head (Live s) z zs w) (from_substituted s zs (All-tail (Live s) z zs w))
+
+clauses_substituted : (s : List ℕ) (row : List ℤ) → All (Live s) row → clauses (map (substituted s) row) ≡ map (map (replace s)) (clauses row)
+unfolding clauses
+clauses_substituted s row w = from_substituted s row w []
+
+-- The front of a row is substituted.
+pub front_substituted : (s : List ℕ) (row front : List ℤ) (len : ℕ) → len ≤ length row → All (Live s) (take len row)
+    → front ≡ map (substituted s) (take len row)
+    → clauses (take len (front ++ drop len row)) ≡ map (map (replace s)) (clauses (take len row))
+front_substituted s row front len h w e =
+    let n : length front ≡ len = ap length e ∙ length-map (take len row) (substituted s) ∙ length-take-le len row h in
+    rw (take_at front (drop len row) len n, e) (clauses_substituted s (take len row) w)
+
+pub zero_stays : (s : List ℕ) (row front : List ℤ) (len : ℕ) → len ≤ length row → front ≡ map (substituted s) (take len row)
+    → (k : ℕ) → get_or row k (pos 0) ≡ pos 0 → get_or (front ++ drop len row) k (pos 0) ≡ pos 0
+zero_stays s row front len h e k z = ⊎_elim below above (cases_lt k len)
+  where
+    n : length front ≡ len
+    n = ap length e ∙ length-map (take len row) (substituted s) ∙ length-take-le len row h
+
+    below : k < len → get_or (front ++ drop len row) k (pos 0) ≡ pos 0
+    below l =
+        let i : k < length front = omega (arith, n) in
+        let j : k < length (take len row) = omega (arith, length-take-le len row h) in
+        get_or_append_left front (drop len row) (pos 0) k i ∙ ap (λ x. get_or x k (pos 0)) e
+        ∙ get_or-map (substituted s) (take len row) k (pos 0) (pos 0) j ∙ ap (substituted s) (get_or-take len row k (pos 0) l ∙ z)
+
+    above : len ≤ k → get_or (front ++ drop len row) k (pos 0) ≡ pos 0
+    above l =
+        let m : len + (k - len) ≡ k = omega arith in
+        get_or-append_right front (drop len row) len k (pos 0) n l ∙ get_or-drop len row (k - len) (pos 0) ∙ ap (λ x. get_or row x (pos 0)) m ∙ z
+
+-- The entries stay within the row of what each variable stands for.
+one_inside : (s : List ℕ) (z : ℤ) → Coded s → var (literal z) < length s → Live s z → var (literal (substituted s z)) < length s
+one_inside s z c h w = go (eqb (literal z) 0) refl
+  where
+    go : (t : Bool) → eqb (literal z) 0 ≡ t → var (literal (substituted s z)) < length s
+    go true q = rw (substituted_zero s z (eqb-true (literal z) 0 q)) h
+    go false q = rw (substituted_live s z (eqb-false (literal z) 0 q) w) (let r = replace_coded s (literal z) c h in omega arith)
+
+pub front_inside : (s : List ℕ) (row front : List ℤ) (len : ℕ) → len ≤ length row → Coded s → All (λ e. var (literal e) < length s) (take len row)
+    → All (Live s) (take len row) → front ≡ map (substituted s) (take len row) → All (λ e. var (literal e) < length s) (take len (front ++ drop len row))
+front_inside s row front len h c w v e =
+    let n : length front ≡ len = ap length e ∙ length-map (take len row) (substituted s) ∙ length-take-le len row h in
+    rw (take_at front (drop len row) len n, e)
+    (All-map (λ e. var (literal e) < length s) (substituted s) (take len row) (λ k d i. one_inside s (get_or (take len row) k d) c (w k d i) (v k d i)))
+
+-- Where the last entry is a zero, what holds of the literals of the clauses holds of every entry but the zeros.
+abbrev Ended : List ℤ → Type 0
+Ended row = get_or row (length row - 1) (pos 0) ≡ pos 0
+
+ended_tail : (z : ℤ) (zs : List ℤ) → Ended (z ∷ zs) → Ended zs × ((literal z ≡ 0 → ⊥) → 0 < length zs)
+ended_tail z [] e = (refl, λ n. absurd (n (ap literal e)))
+ended_tail z (y ∷ ys) e =
+    let more : suc (suc (length ys)) - 1 ≡ suc (length ys) = omega arith in
+    let less : suc (length ys) - 1 ≡ length ys = omega arith in
+    (rw less (rw more at e), λ n. omega arith)
+
+-- b: the literals of the open clause.
+abbrev Reached : (ℕ → Type 0) → List ℕ → List ℤ → Type 0
+Reached P b row = All (λ e. 2 ≤ literal e → P (literal e)) row × ((l : ℕ) → Memᴰ l b → 0 < length row → P l)
+
+one_entry : (P : ℕ → Type 0) (b : List ℕ) (z : ℤ) (zs : List ℤ) → ((literal z ≡ 0 → ⊥) → 0 < length zs)
+    → ((d : List ℕ) → EachLiteral P (clauses_from d zs) → Reached P d zs) → EachLiteral P (clauses_from b (z ∷ zs)) → Reached P b (z ∷ zs)
+one_entry P b z zs more rest h = go (eqb (literal z) 0) refl
+  where
+    go : (t : Bool) → eqb (literal z) 0 ≡ t → Reached P b (z ∷ zs)
+    go true q =
+        let e = eqb-true (literal z) 0 q in
+        let g = subst (EachLiteral P) (clause_ends b z zs e) h in
+        let r = rest [] (λ c i. g c (Memᴰ.tail i)) in
+        (All-cons (λ e. 2 ≤ literal e → P (literal e)) z zs (λ w. absurd (no e w)) r.0, λ l m i. g b (Memᴰ.head refl) l m)
+      where
+        no : literal z ≡ 0 → 2 ≤ literal z → ⊥
+        no e w = omega arith
+    go false q =
+        let e = eqb-false (literal z) 0 q in
+        let r = rest (b ++ (literal z ∷ [])) (subst (EachLiteral P) (clause_grows b z zs e) h) in
+        (All-cons (λ e. 2 ≤ literal e → P (literal e)) z zs (λ w. r.1 (literal z) (Memᴰ.append_right b (Memᴰ.head refl)) (more e)) r.0, λ l m i. r.1 l (Memᴰ.append_left (literal z ∷ []) m) (more e))
+
+every_entry : (P : ℕ → Type 0) (row : List ℤ) → Ended row → (b : List ℕ) → EachLiteral P (clauses_from b row) → Reached P b row
+every_entry P [] e b h = (All-nil (λ e. 2 ≤ literal e → P (literal e)), λ l m i. absurd (no i))
+  where
+    no : 0 < 0 → ⊥
+    no i = omega arith
+every_entry P (z ∷ zs) e b h = let t = ended_tail z zs e in one_entry P b z zs t.1 (every_entry P zs t.0) h
+
+pub live_clauses : (s : List ℕ) (row : List ℤ) → get_or row (length row - 1) (pos 0) ≡ pos 0 → EachLiteral (λ l. 2 ≤ replace s l) (clauses row) → All (Live s) row
+unfolding clauses
+live_clauses s row z h = (every_entry (λ l. 2 ≤ replace s l) row z [] h).0
