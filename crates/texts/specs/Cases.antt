@@ -4,7 +4,7 @@ use Rattle.std.specs.List.{list_all}
 use Prim.Native.String.{String}
 use Rattle.ways.specs.Ways.{same}
 use Rattle.tables.specs.Numbers.{number_of, place_of, refuse, first_refusal}
-use Rattle.tables.specs.Literal.{literal, entry, var, neg}
+use Rattle.tables.specs.Literal.{literal, entry}
 use Rattle.tables.specs.Clause.{clauses_from, clauses}
 use Rattle.tables.specs.Check.{check_from, checked}
 use Rattle.tables.specs.declared.numbers.Refusal.{Refusal}

@@ -1,5 +1,13 @@
 // Clause text: what its definitions, its readers and its writers answer.
 #![tactic(auto)]
 
+pub mod body;
+pub mod bytes;
+pub mod decimal;
 pub mod header;
+pub mod numerals;
+pub mod pieces;
 pub mod reading;
+pub mod tally;
+pub mod tokens;
+pub mod writing;

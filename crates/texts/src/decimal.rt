@@ -1,0 +1,26 @@
+// Numbers written out.
+ghost use Rattle.std.specs.Prelude.{◌≡◌, ◌<◌, ◌^◌, drop};
+ghost use Rattle.texts.specs.Decimal.{decimal};
+
+/// The most digits that are written: a literal's variable has no more.
+pub const MOST_DIGITS: usize = 10;
+
+/// The decimal digits of a number, at the end of a row: the row, and the place of the first digit.
+#[tactic(auto, using(crate::proofs::WriteSteps::decimal_one, crate::proofs::WriteSteps::decimal_more, crate::proofs::WriteSteps::tenth_fits, crate::proofs::WriteSteps::two_left))]
+pub fn decimal(number: usize) -> ([u8; MOST_DIGITS], usize)
+    requires { number < 10 ^ 10 }
+    ensures is { drop result.1 result.0 ≡ decimal number }
+    ensures within { result.1 < 10 }
+{
+    let mut digits = [b'0'; MOST_DIGITS];
+    let mut first = MOST_DIGITS;
+    let mut rest = number;
+    while rest >= 10 {
+        first -= 1;
+        digits[first] = b'0' + (rest % 10) as u8;
+        rest /= 10;
+    }
+    first -= 1;
+    digits[first] = b'0' + rest as u8;
+    (digits, first)
+}
