@@ -1,1 +1,3 @@
 -- Laws of the gates' code.
+pub mod Left
+pub mod Sides

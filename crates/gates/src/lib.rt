@@ -1,4 +1,6 @@
 // Gates in code: their patterns found in the settled table, taken without rings, and what they leave.
 #![tactic(auto)]
 
+pub mod andform;
+pub mod partners;
 pub mod site;
