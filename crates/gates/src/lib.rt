@@ -2,5 +2,7 @@
 #![tactic(auto)]
 
 pub mod andform;
+pub mod parity;
 pub mod partners;
+pub mod signs;
 pub mod site;
