@@ -2,6 +2,7 @@
 #![tactic(auto)]
 
 pub mod andform;
+pub mod index;
 pub mod parity;
 pub mod partners;
 pub mod signs;
