@@ -1,1 +1,10 @@
 -- Laws of the gates' code.
+pub mod Chains
+pub mod Groups
+pub mod Left
+pub mod Masks
+pub mod Ones
+pub mod Same
+pub mod Scans
+pub mod Sides
+pub mod Whole
