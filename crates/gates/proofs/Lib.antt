@@ -1,1 +1,4 @@
 -- Laws of the gates' code.
+pub mod SiteLaws
+pub mod OutputLaws
+pub mod LevelSteps

@@ -1,2 +1,3 @@
 -- What the gates' code has of its own.
 pub mod Sites
+pub mod Outputs

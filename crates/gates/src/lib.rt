@@ -1,4 +1,7 @@
 // Gates in code: their patterns found in the settled table, taken without rings, and what they leave.
 #![tactic(auto)]
 
+pub mod depends;
+pub mod levels;
+pub mod outputs;
 pub mod site;
