@@ -2,3 +2,5 @@
 pub mod SiteLaws
 pub mod OutputLaws
 pub mod LevelSteps
+pub mod PlaceSteps
+pub mod Placed

@@ -1,3 +1,4 @@
 -- What the gates' code has of its own.
 pub mod Sites
 pub mod Outputs
+pub mod Placing

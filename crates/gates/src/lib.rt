@@ -4,4 +4,5 @@
 pub mod depends;
 pub mod levels;
 pub mod outputs;
+pub mod place;
 pub mod site;
