@@ -4,3 +4,6 @@ pub mod OutputLaws
 pub mod LevelSteps
 pub mod PlaceSteps
 pub mod Placed
+pub mod SameEntries
+pub mod PatternParts
+pub mod GroupSteps

@@ -2,3 +2,4 @@
 pub mod Sites
 pub mod Outputs
 pub mod Placing
+pub mod Alike

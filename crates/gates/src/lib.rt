@@ -5,4 +5,5 @@ pub mod depends;
 pub mod levels;
 pub mod outputs;
 pub mod place;
+pub mod residue;
 pub mod site;
