@@ -7,3 +7,4 @@ pub mod Placed
 pub mod SameEntries
 pub mod PatternParts
 pub mod GroupSteps
+pub mod Room

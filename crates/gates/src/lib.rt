@@ -3,6 +3,7 @@
 
 pub mod depends;
 pub mod levels;
+pub mod offer;
 pub mod outputs;
 pub mod place;
 pub mod residue;
