@@ -8,3 +8,12 @@ pub mod Same
 pub mod Scans
 pub mod Sides
 pub mod Whole
+pub mod SiteLaws
+pub mod OutputLaws
+pub mod LevelSteps
+pub mod PlaceSteps
+pub mod Placed
+pub mod SameEntries
+pub mod PatternParts
+pub mod GroupSteps
+pub mod Room

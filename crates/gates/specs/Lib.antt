@@ -2,3 +2,6 @@
 pub mod Index
 pub mod Seen
 pub mod Sites
+pub mod Outputs
+pub mod Placing
+pub mod Alike
