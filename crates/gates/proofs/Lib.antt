@@ -1,1 +1,2 @@
 -- Laws of the gates' code.
+pub mod KindTable

@@ -1,4 +1,5 @@
 // Gates in code: their patterns found in the settled table, taken without rings, and what they leave.
 #![tactic(auto)]
 
+pub mod kinds;
 pub mod site;
