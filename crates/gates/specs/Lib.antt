@@ -1,3 +1,5 @@
 -- What the gates' code has of its own.
+pub mod Counting
+pub mod Inputs
 pub mod KindRows
 pub mod Sites

@@ -18,6 +18,23 @@ pub struct Kind {
     pub greatest: usize,
 }
 
+// The numbers of the kinds.
+pub const AND: u8 = 0;
+
+pub const NOR: u8 = 1;
+
+pub const CG: u8 = 2;
+
+pub const OR: u8 = 3;
+
+pub const NAND: u8 = 4;
+
+pub const DG: u8 = 5;
+
+pub const XOR: u8 = 6;
+
+pub const XNOR: u8 = 7;
+
 pub const KINDS: [Kind; 8] = [
     Kind {
         name: "and",
