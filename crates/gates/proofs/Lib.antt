@@ -1,4 +1,6 @@
 -- Laws of the gates' code.
 pub mod Counts
+pub mod FillSteps
+pub mod Filled
 pub mod KindTable
 pub mod SiteGates

@@ -1,5 +1,6 @@
 -- What the gates' code has of its own.
 pub mod Counting
+pub mod Filling
 pub mod Inputs
 pub mod KindRows
 pub mod Sites
