@@ -17,3 +17,8 @@ pub mod SameEntries
 pub mod PatternParts
 pub mod GroupSteps
 pub mod Room
+pub mod Counts
+pub mod FillSteps
+pub mod Filled
+pub mod KindTable
+pub mod SiteGates

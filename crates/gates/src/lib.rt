@@ -12,4 +12,8 @@ pub mod offer;
 pub mod outputs;
 pub mod place;
 pub mod residue;
+pub mod fill;
+pub mod inputs;
+pub mod kinds;
 pub mod site;
+pub mod value;
