@@ -2,18 +2,18 @@
 #![tactic(auto)]
 
 pub mod andform;
-pub mod index;
-pub mod parity;
-pub mod partners;
-pub mod signs;
 pub mod depends;
+pub mod fill;
+pub mod index;
+pub mod inputs;
+pub mod kinds;
 pub mod levels;
 pub mod offer;
 pub mod outputs;
+pub mod parity;
+pub mod partners;
 pub mod place;
 pub mod residue;
-pub mod fill;
-pub mod inputs;
-pub mod kinds;
+pub mod signs;
 pub mod site;
 pub mod value;
