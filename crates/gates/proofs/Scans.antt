@@ -1,8 +1,10 @@
 -- Laws of the search for a row's first clause, and of the walk along a chain of the index.
-use Rattle.std.proofs.Common.{◌≡◌, ◌∙◌, refl, sym, ap, subst, ℕ, ◌+◌, ◌*◌, ◌%◌, ◌<◌, ◌≤◌, true, false, ◌||◌, List, [], ◌∷◌, ◌++◌, map, length, get_or, take, drop, ℤ, pos, eqb, fold, arith, eqb-true, append_assoc}
+use Rattle.std.proofs.Common.{◌≡◌, ◌∙◌, refl, sym, ap, subst, ℕ, ◌+◌, ◌*◌, ◌%◌, ◌<◌, ◌≤◌, true, false, ◌||◌, List, [], ◌∷◌, ◌++◌, map, length, get_or, take, drop, ℤ, pos, eqb, fold, arith, eqb-true, append_assoc, cond, ⊎_elim}
 use Rattle.std.specs.Cmp.Lexicographic.{bytes_decides}
-use Rattle.std.proofs.lemmas.Bool.{cond_both, false_from_ne_true, eqb-false}
+use Rattle.std.proofs.lemmas.Bool.{cases_Bool, cond_both, false_from_ne_true, eqb-false}
+use Rattle.std.specs.List.{list_any}
 use Rattle.std.proofs.lemmas.List.Folds.{list_any-append}
+use Rattle.std.proofs.lemmas.List.Sums.{fold-append}
 use Rattle.std.proofs.lemmas.List.{drop_all, drop_more, take_more, map_push, append-nil}
 use Rattle.ways.specs.Ways.{same, among}
 use Rattle.tables.specs.Literal.{literal, var}
@@ -115,12 +117,25 @@ fold_keyed c m (d ∷ cs) =
     key_cases (key c) (λ xs. fold (see c) m (d ∷ cs) ≡ fold (see c) m xs) d cs (λ q. fold_keyed c (see c m d) cs)
     (λ n. ap (λ x. fold (see c) x cs) (see_other c m d (apart (key c) (group c) (group_key c) d n)) ∙ fold_keyed c m cs)
 
+lead_fold : (row : List ℤ) (k : ℕ) (zs : List ℤ) (at : ℕ) → Leads row k zs at → (c : List ℕ) (m : ℕ) → key c ≡ k → fold (see c) m (clauses zs) ≡ fold (see c) m (clauses (drop at row))
+lead_fold row k zs at l c m e =
+    fold_keyed c m (clauses zs) ∙ ap (fold (see c) m) (subst (λ j. with_key j (clauses zs) ≡ with_key j (clauses (drop at row))) (sym e) l.alike) ∙ sym (fold_keyed c m (clauses (drop at row)))
+
+lead_first : (row : List ℤ) (k : ℕ) (zs : List ℤ) (at : ℕ) → Leads row k zs at → (c : List ℕ) → key c ≡ k → first_of (group c) (clauses zs) ≡ first_of (group c) (clauses (drop at row))
+lead_first row k zs at l c e =
+    first_keyed k (group c) (λ d q. group_key c d q ∙ e) (clauses zs) ∙ ap (first_of (group c)) l.alike ∙ sym (first_keyed k (group c) (λ d q. group_key c d q ∙ e) (clauses (drop at row)))
+
+first_append : (ds xs ys : List (List ℕ)) → first_of ds (xs ++ ys) ≡ cond (list_any (λ d. among d ds) xs) (first_of ds xs) (first_of ds ys)
+unfolding first_of
+first_append ds [] ys = refl
+first_append ds (x ∷ xs) ys = ⊎_elim (λ (e : among x ds ≡ true). rw (e) refl) (λ (e : among x ds ≡ false). rw (e) (first_append ds xs ys)) (cases_Bool (among x ds))
+
 -- A step of a walk along the chain of a key: from the place on, behind the first clause there, and on by the link.
 pub record On (row : List ℤ) (k at : ℕ) : Type 0 where
   pub keyed : at < length row → key (first_part (drop at row)) ≡ k
 
-pub on_first : (row : List ℤ) (heads links : List ℕ) (k : ℕ) → Indexed row heads links → k < 1024 → On row k (get_or heads k 0)
-on_first row heads links k x b = record { keyed = (x.first k b).keyed }
+pub on_first : (row : List ℤ) (heads links : List ℕ) (k j : ℕ) → Indexed row heads links → k < 1024 → k ≡ j → On row j (get_or heads k 0)
+on_first row heads links k j x b e = record { keyed = λ h. (x.first k b).keyed h ∙ e }
 
 module _ (row : List ℤ) (heads links : List ℕ) (x : Indexed row heads links) (k at : ℕ) (h : at < length row) (o : On row k at) where
   lead : Leads row k (behind (drop at row)) (get_or links at 0)
@@ -137,10 +152,27 @@ module _ (row : List ℤ) (heads links : List ℕ) (x : Indexed row heads links)
       ap (among d) (first_and_rest (drop at row)) ∙ list_any-append (same d) (one (drop at row)) (clauses (behind (drop at row)))
       ∙ ap (λ b. among d (one (drop at row)) || b) (among_keyed k d e (clauses (behind (drop at row))) ∙ ap (among d) lead.alike ∙ sym (among_keyed k d e (clauses (drop (get_or links at 0) row))))
 
+  pub fold_next : (c : List ℕ) (m : ℕ) → key c ≡ k → fold (see c) m (clauses (drop at row)) ≡ fold (see c) (fold (see c) m (one (drop at row))) (clauses (drop (get_or links at 0) row))
+  fold_next c m e =
+      ap (fold (see c) m) (first_and_rest (drop at row)) ∙ fold-append (see c) m (one (drop at row)) (clauses (behind (drop at row)))
+      ∙ lead_fold row k (behind (drop at row)) (get_or links at 0) lead c (fold (see c) m (one (drop at row))) e
+
+  pub first_next : (c : List ℕ) → key c ≡ k
+      → first_of (group c) (clauses (drop at row)) ≡ cond (list_any (λ d. among d (group c)) (one (drop at row))) (first_of (group c) (one (drop at row))) (first_of (group c) (clauses (drop (get_or links at 0) row)))
+  first_next c e =
+      ap (first_of (group c)) (first_and_rest (drop at row)) ∙ first_append (group c) (one (drop at row)) (clauses (behind (drop at row)))
+      ∙ ap (cond (list_any (λ d. among d (group c)) (one (drop at row))) (first_of (group c) (one (drop at row)))) (lead_first row k (behind (drop at row)) (get_or links at 0) lead c e)
+
 module _ (row : List ℤ) (heads links : List ℕ) (x : Indexed row heads links) (k : ℕ) (b : k < 1024) where
   pub among_first : (d : List ℕ) → key d ≡ k → among d (clauses row) ≡ among d (clauses (drop (get_or heads k 0) row))
   among_first d e = among_keyed k d e (clauses row) ∙ ap (among d) (x.first k b).alike ∙ sym (among_keyed k d e (clauses (drop (get_or heads k 0) row)))
 
-pub among_end : (row : List ℤ) (at : ℕ) (d : List ℕ) → length row ≤ at → among d (clauses (drop at row)) ≡ false
+  pub fold_first : (c : List ℕ) (m : ℕ) → key c ≡ k → fold (see c) m (clauses row) ≡ fold (see c) m (clauses (drop (get_or heads k 0) row))
+  fold_first c m e = lead_fold row k row (get_or heads k 0) (x.first k b) c m e
+
+  pub first_first : (c : List ℕ) → key c ≡ k → first_of (group c) (clauses row) ≡ first_of (group c) (clauses (drop (get_or heads k 0) row))
+  first_first c e = lead_first row k row (get_or heads k 0) (x.first k b) c e
+
+pub none_left : (row : List ℤ) (at : ℕ) → length row ≤ at → clauses (drop at row) ≡ []
 unfolding clauses clauses_from
-among_end row at d h = rw (drop_all at row h) refl
+none_left row at h = rw (drop_all at row h) refl

@@ -14,7 +14,6 @@ use Rattle.tables.specs.Literal.{literal, var}
 use Rattle.tables.specs.Clause.{clauses}
 use Rattle.rules.specs.Patterns.{first_of, signings, odd, group}
 use Rattle.gates.specs.Seen.{see, seen}
-use Rattle.gates.proofs.Left.{left, left_none}
 use Rattle.gates.proofs.Ones.{one_if}
 use Rattle.gates.proofs.Groups.{over, in_signings, group_size}
 use Rattle.gates.proofs.Masks.{Test, mask, mask_alike, mask_none, mask_one, mask_or, agrees, ones_mask}
@@ -97,7 +96,7 @@ group_by_odd c d h = sym (in_group c d ∙ rw (h) (xor_beq (odd d) (odd c)))
 pub other_vars : (c d : List ℕ) → same (map var d) (map var c) ≡ false → among d (group c) ≡ false
 other_vars c d h = in_group c d ∙ rw (h) refl
 
-pub first_none : (row : List ℤ) (s p : ℕ) (ds : List (List ℕ)) (c : List ℤ) → length row ≤ p → 0 < length c → same (first_of ds (left row s p)) (map literal c) ≡ false
+pub first_of_none : (ds : List (List ℕ)) (c : List ℤ) → 0 < length c → same (first_of ds []) (map literal c) ≡ false
 unfolding first_of
-first_none row s p ds [] h k = absurd (omega arith)
-first_none row s p ds (z ∷ c) h k = rw (left_none row s p h) refl
+first_of_none ds [] h = absurd (omega arith)
+first_of_none ds (z ∷ c) h = refl

@@ -1,13 +1,15 @@
 // Parity groups: whether a clause is its group's first in the row, and whether the row has all of the group.
-ghost use Rattle.std.specs.Prelude.{◌≡◌, ◌&&◌, ◌<◌, ◌≤◌, ℕ, map, length};
+ghost use Rattle.std.specs.Prelude.{◌≡◌, ◌&&◌, ◌<◌, ◌≤◌, ℕ, true, map, length, take};
 ghost use Rattle.std.specs.Bool.{OnTrue};
-ghost use Rattle.std.specs.List.{list_all};
+ghost use Rattle.std.specs.List.{fold, list_all, list_any};
 ghost use Rattle.ways.specs.Ways.{among, same};
 ghost use Rattle.tables.specs.Literal.{literal, var};
 ghost use Rattle.tables.specs.Clause.{clauses};
 ghost use Rattle.rules.specs.Patterns.{anchors, first_of, found, group, parity};
+ghost use Rattle.gates.specs.Index.{Indexed};
 ghost use Rattle.gates.specs.Seen.{see, seen};
 
+use crate::index::{first_clause, key};
 use crate::signs::{is_odd, signs};
 use tables::literal::{literal, var};
 
@@ -65,58 +67,90 @@ fn see(clause: &[i32], anchor: &[i32], seen: u32) -> u32
     }
 }
 
-/// The sign patterns of the anchor's group that the row has.
-#[tactic(auto, using(crate::proofs::Left::left_begins, crate::proofs::Left::left_grows, crate::proofs::Left::left_ends, crate::proofs::Left::left_none))]
-fn patterns_seen(row: &[i32], anchor: &[i32]) -> u32
+/// The patterns seen, with that of the row's first clause.
+fn see_first(row: &[i32], anchor: &[i32], seen: u32) -> u32
     requires { length anchor.now ≤ 5 }
+    ensures { result ≡ fold (see (map literal anchor.now)) seen (take 1 (clauses row.now)) }
+{
+    match first_clause(row) {
+        Some(clause) => see(clause, anchor, seen),
+        None => seen,
+    }
+}
+
+/// The sign patterns of the anchor's group that the row has: a walk along the chain of the anchor's key.
+fn patterns_seen(row: &[i32], heads: &[u16], links: &[u16], anchor: &[i32]) -> u32
+    requires few { length anchor.now ≤ 5 }
+    requires index { Indexed row.now heads.now links.now }
     ensures { result ≡ seen (clauses row.now) (map literal anchor.now) }
 {
     let mut seen = 0;
-    let mut start = 0;
-    for (place, &entry) in row.iter().enumerate() {
-        if entry == 0 {
-            seen = see(&row[start..place], anchor, seen);
-            start = place + 1;
-        }
+    let mut at = heads[key(anchor)] as usize;
+    while at < row.len() {
+        seen = see_first(row.split_at(at).1, anchor, seen);
+        at = links[at] as usize;
     }
     seen
 }
 
-#[tactic(auto, using(crate::proofs::Whole::whole_row))]
 /// Whether the row has every clause of the anchor's group.
-fn is_whole(row: &[i32], anchor: &[i32]) -> bool
+#[tactic(auto, using(crate::proofs::Whole::whole_row))]
+fn is_whole(row: &[i32], heads: &[u16], links: &[u16], anchor: &[i32]) -> bool
     requires some { 0 < length anchor.now }
     requires few { length anchor.now ≤ 5 }
+    requires index { Indexed row.now heads.now links.now }
     ensures { result ≡ list_all (λ d. among d (clauses row.now)) (group (map literal anchor.now)) }
 {
-    patterns_seen(row, anchor).count_ones() == 1 << (anchor.len() - 1)
+    patterns_seen(row, heads, links, anchor).count_ones() == 1 << (anchor.len() - 1)
 }
 
-/// Whether the anchor is the first clause of its group in the row.
-#[tactic(auto, using(crate::proofs::Left::left_begins, crate::proofs::Left::left_grows, crate::proofs::Left::left_ends, crate::proofs::Whole::first_none), unfolding(rules::specs::Patterns::first_of))]
-fn is_first(row: &[i32], anchor: &[i32]) -> bool
+/// Whether the row's first clause is of the anchor's group.
+fn begins_alike(row: &[i32], anchor: &[i32]) -> bool
+    requires { length anchor.now ≤ 5 }
+    ensures { result ≡ list_any (λ d. among d (group (map literal anchor.now))) (take 1 (clauses row.now)) }
+{
+    match first_clause(row) {
+        Some(clause) => is_alike(clause, anchor),
+        None => false,
+    }
+}
+
+/// Whether the row's first clause, which is of the anchor's group, is the anchor.
+#[tactic(auto, unfolding(rules::specs::Patterns::first_of))]
+fn begins_same(row: &[i32], anchor: &[i32]) -> bool
+    requires { list_any (λ d. among d (group (map literal anchor.now))) (take 1 (clauses row.now)) ≡ true }
+    ensures { result ≡ same (first_of (group (map literal anchor.now)) (take 1 (clauses row.now))) (map literal anchor.now) }
+{
+    match first_clause(row) {
+        Some(clause) => is_same(clause, anchor),
+        None => anchor.is_empty(),
+    }
+}
+
+/// Whether the anchor is the first clause of its group in the row: a walk along the chain of its key.
+fn is_first(row: &[i32], heads: &[u16], links: &[u16], anchor: &[i32]) -> bool
     requires some { 0 < length anchor.now }
     requires few { length anchor.now ≤ 5 }
+    requires index { Indexed row.now heads.now links.now }
     ensures { result ≡ same (first_of (group (map literal anchor.now)) (clauses row.now)) (map literal anchor.now) }
 {
-    let mut start = 0;
-    for (place, &entry) in row.iter().enumerate() {
-        if entry == 0 {
-            let clause = &row[start..place];
-            if is_alike(clause, anchor) {
-                return is_same(clause, anchor);
-            }
-            start = place + 1;
+    let mut at = heads[key(anchor)] as usize;
+    while at < row.len() {
+        let rest = row.split_at(at).1;
+        if begins_alike(rest, anchor) {
+            return begins_same(rest, anchor);
         }
+        at = links[at] as usize;
     }
     false
 }
 
 /// Whether the anchor is its parity group's first clause and the group is whole.
 #[tactic(auto, unfolding(rules::specs::Patterns::anchors, rules::specs::Patterns::found, rules::specs::Patterns::parity))]
-pub fn parity_found(row: &[i32], anchor: &[i32]) -> bool
-    requires { 0 < length anchor.now }
+pub fn parity_found(row: &[i32], heads: &[u16], links: &[u16], anchor: &[i32]) -> bool
+    requires some { 0 < length anchor.now }
+    requires index { Indexed row.now heads.now links.now }
     ensures { (o : ℕ) → result ≡ (anchors (clauses row.now) (map literal anchor.now) && found (clauses row.now) (parity (map literal anchor.now) o)) }
 {
-    anchor.len() < 6 && is_first(row, anchor) && is_whole(row, anchor)
+    anchor.len() < 6 && is_first(row, heads, links, anchor) && is_whole(row, heads, links, anchor)
 }

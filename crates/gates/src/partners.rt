@@ -1,11 +1,13 @@
 // The clauses of two literals that an and-form has beside its anchor: the opposite of the output with the opposite of each
 // other literal.
-ghost use Rattle.std.specs.Prelude.{◌≡◌, ◌≢◌, ◌<◌, ◌∷◌, [], map};
+ghost use Rattle.std.specs.Prelude.{◌≡◌, ◌≢◌, ◌<◌, ◌∷◌, [], map, take};
 ghost use Rattle.ways.specs.Ways.{among, same};
 ghost use Rattle.tables.specs.Literal.{literal};
 ghost use Rattle.tables.specs.Clause.{clauses};
+ghost use Rattle.gates.specs.Index.{Indexed};
 ghost use Rattle.rules.specs.Patterns.{side};
 
+use crate::index::{first_clause, key_of_two};
 use tables::literal::{literal, opposite};
 
 /// Whether the clause is that of two literals.
@@ -15,34 +17,43 @@ fn is_clause_of(clause: &[i32], x: usize, y: usize) -> bool
     clause.len() == 2 && x == literal(clause[0]) && y == literal(clause[1])
 }
 
-/// Whether the row has the clause of two literals.
-#[tactic(auto, using(crate::proofs::Left::left_begins, crate::proofs::Left::left_grows, crate::proofs::Left::left_ends, crate::proofs::Left::left_none))]
-fn has_clause(row: &[i32], x: usize, y: usize) -> bool
+/// Whether the row's first clause is that of two literals.
+fn begins_with(row: &[i32], x: usize, y: usize) -> bool
+    ensures { result ≡ among (x ∷ y ∷ []) (take 1 (clauses row.now)) }
+{
+    match first_clause(row) {
+        Some(clause) => is_clause_of(clause, x, y),
+        None => false,
+    }
+}
+
+/// Whether the row has the clause of two literals: a walk along the chain of its key.
+fn has_clause(row: &[i32], heads: &[u16], links: &[u16], x: usize, y: usize) -> bool
+    requires { Indexed row.now heads.now links.now }
     ensures { result ≡ among (x ∷ y ∷ []) (clauses row.now) }
 {
-    let mut start = 0;
-    for (place, &entry) in row.iter().enumerate() {
-        if entry == 0 {
-            if is_clause_of(&row[start..place], x, y) {
-                return true;
-            }
-            start = place + 1;
+    let mut at = heads[key_of_two(x, y)] as usize;
+    while at < row.len() {
+        if begins_with(row.split_at(at).1, x, y) {
+            return true;
         }
+        at = links[at] as usize;
     }
     false
 }
 
 /// Whether the row has the clause of the opposites of two literals.
 #[tactic(auto, using(crate::proofs::Sides::side_rises, crate::proofs::Sides::side_falls))]
-pub fn has_side(row: &[i32], output: usize, other: usize) -> bool
-    requires { output ≢ other }
+pub fn has_side(row: &[i32], heads: &[u16], links: &[u16], output: usize, other: usize) -> bool
+    requires differ { output ≢ other }
+    requires index { Indexed row.now heads.now links.now }
     ensures { result ≡ among (side output other) (clauses row.now) }
 {
     let x = opposite(output);
     let y = opposite(other);
     if x < y {
-        has_clause(row, x, y)
+        has_clause(row, heads, links, x, y)
     } else {
-        has_clause(row, y, x)
+        has_clause(row, heads, links, y, x)
     }
 }

@@ -4,4 +4,4 @@ use Rattle.gates.proofs.Sides.{form_found}
 use Rattle.gates.proofs.andform.and_form_found.Goals as goal
 
 pub returns : goal.returns
-returns c = c.are_met.ensures ∙ form_found _ _ _ c.requires
+returns c = c.are_met.ensures ∙ form_found _ _ _ c.requires.stands
