@@ -8,3 +8,4 @@ pub mod SameEntries
 pub mod PatternParts
 pub mod GroupSteps
 pub mod Room
+pub mod TakeSteps
