@@ -22,3 +22,4 @@ pub mod FillSteps
 pub mod Filled
 pub mod KindTable
 pub mod SiteGates
+pub mod TakeSteps
