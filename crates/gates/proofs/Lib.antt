@@ -1,4 +1,5 @@
 -- Laws of the gates' code.
+pub mod AskSteps
 pub mod Counts
 pub mod FillSteps
 pub mod Filled

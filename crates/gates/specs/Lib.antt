@@ -1,4 +1,5 @@
 -- What the gates' code has of its own.
+pub mod Asking
 pub mod Counting
 pub mod Filling
 pub mod Inputs
