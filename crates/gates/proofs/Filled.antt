@@ -21,7 +21,7 @@ use Rattle.gates.specs.Inputs.{input, inputs}
 use Rattle.gates.specs.Filling.{shown}
 use Rattle.gates.proofs.SiteGates.{inputs_are}
 
-all_mem : {X : Type 0} (P : X → Type 0) (xs : List X) → All P xs → (x : X) → Memᴰ x xs → P x
+pub all_mem : {X : Type 0} (P : X → Type 0) (xs : List X) → All P xs → (x : X) → Memᴰ x xs → P x
 all_mem P [] h x i = absurd (Memᴰ.not-nil i)
 all_mem P (y ∷ xs) h x i = ⊎_elim (λ e. subst P (sym e) (All-head P y xs h)) (λ j. all_mem P xs (All-tail P y xs h) x j) (Memᴰ.cases_cons i)
 

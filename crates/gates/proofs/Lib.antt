@@ -17,6 +17,7 @@ pub mod SameEntries
 pub mod PatternParts
 pub mod GroupSteps
 pub mod Room
+pub mod AskSteps
 pub mod Counts
 pub mod FillSteps
 pub mod Filled

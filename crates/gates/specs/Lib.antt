@@ -1,6 +1,7 @@
 -- What the gates' code has of its own.
 pub mod Index
 pub mod Seen
+pub mod Asking
 pub mod Counting
 pub mod Filling
 pub mod Inputs

@@ -39,7 +39,7 @@ pub fn evaluate(row: &[i32], sites: &[Site], values: &mut [u8])
 
 /// The literal that a variable stands for: its own, where it is beyond the row.
 #[tactic(auto, unfolding(rules::specs::Pairs::stands))]
-fn stands_for(stands: &[u16], variable: usize) -> usize
+pub fn stands_for(stands: &[u16], variable: usize) -> usize
     requires { 2 * variable ≤ usize.MAX }
     ensures { result ≡ Pairs.stands stands.now variable }
 {

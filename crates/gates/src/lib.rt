@@ -3,6 +3,7 @@
 
 pub mod andform;
 pub mod depends;
+pub mod ask;
 pub mod fill;
 pub mod index;
 pub mod inputs;
