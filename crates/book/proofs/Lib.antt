@@ -1,1 +1,2 @@
 -- Laws of the pin book.
+pub mod PinSteps

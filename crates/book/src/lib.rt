@@ -1,4 +1,5 @@
-// The pin book in code: a take-back, by value and over a lent book.
+// The pin book in code: a pin and a take-back, by value and over a lent book.
 #![tactic(auto)]
 
+pub mod pin;
 pub mod takeback;

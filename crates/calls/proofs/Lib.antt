@@ -1,1 +1,2 @@
 -- Laws of what every call begins with.
+pub mod Openings

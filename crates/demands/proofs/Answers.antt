@@ -18,7 +18,7 @@ use Rattle.rules.specs.Calls.{work_short, held_bad, outcome_of, contradiction, r
 use Rattle.rules.specs.declared.book.Book.{Book}
 use Rattle.rules.specs.declared.built.Built.{Built}
 use Rattle.demands.specs.Answers.{AcceptedSettles, FourIsContradiction, RefusalKeeps}
-use Rattle.demands.proofs.Verdicts.{never, answered, refused, all_accept, refuse_accepts, refuse_number}
+use Rattle.tables.proofs.Verdicts.{never, answered, refused, all_accept, refuse_accepts, refuse_number}
 
 module _ (n : ℕ) (t : List ℤ) (b : Book) (work room : ℕ) where
   -- The tests of a build, by their places in the order of refusals.

@@ -1,6 +1,5 @@
 -- The proofs of the statements in specs/.
 pub mod Settled
-pub mod Verdicts
 pub mod Forced
 pub mod Demands
 pub mod Night

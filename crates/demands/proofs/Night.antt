@@ -14,7 +14,7 @@ use Rattle.rules.specs.Pins.{in_force, empty_book, with_pin, without_last, book_
 use Rattle.rules.specs.Calls.{ask, ask_verdict, build, build_listing, build_verdict, fill_values, fill_verdict, held_bad, outcome_of, pin, pin_verdict}
 use Rattle.rules.specs.declared.book.Book.{Book}
 use Rattle.demands.specs.Night.{Move, put, back, answer, stacked, Desk, opening, move, after, StackHeld, StackDecides, TakeBackUndoes}
-use Rattle.demands.proofs.Verdicts.{all_accept, refuse_accepts}
+use Rattle.tables.proofs.Verdicts.{all_accept, refuse_accepts}
 
 -- The invariant of a night.
 record Held (d : Desk) : Type 0 where

@@ -1,16 +1,9 @@
 -- What an evening that is settled gives to all the proofs: clauses of the variables 1 to n, the invariant of the rounds, and the
 -- meaning of what is settled.
-use Rattle.std.proofs.Common.{◌≡◌, ℕ, ◌+◌, ◌<◌, ◌≤◌, Bool, true, false, not, eqb, ltb, ◌↔◌, List, [], ◌∷◌, ℤ, sym, subst, ⊎_elim, ltb-false}
-use mathlib.Core.List.Memᴰ
-use mathlib.Core.List.{Memᴰ}
-use Rattle.std.proofs.lemmas.Bool.{eqb-false, not-true, or_parts}
-use Rattle.ways.proofs.Rows.{list_all-mem}
-use Rattle.tables.specs.Literal.{literal, var}
-use Rattle.tables.specs.Clause.{clauses, satisfies_all}
-use Rattle.tables.proofs.Literals.{var_one, literal_one}
-use Rattle.tables.proofs.Checked.{Inside, accepted_inside}
+use Rattle.std.proofs.Common.{◌≡◌, ℕ, ◌+◌, ◌<◌, ◌≤◌, Bool, true, false, ◌↔◌, List, ℤ}
+use Rattle.tables.specs.Clause.{satisfies_all}
+use Rattle.tables.proofs.Checked.{Inside}
 use Rattle.rules.specs.Rounds.{impossible, settled, outcome, pinned}
-use Rattle.rules.specs.Pins.{out_of_range}
 use Rattle.settling.proofs.Inside.{pinned_inside}
 use Rattle.settling.proofs.Models.{Models, Means, outcome_means}
 use Rattle.settling.proofs.Bound.{Settled, outcome_ends}

@@ -1,1 +1,24 @@
 -- Laws of the gates' code.
+pub mod Chains
+pub mod Groups
+pub mod Left
+pub mod Masks
+pub mod Ones
+pub mod Same
+pub mod Scans
+pub mod Sides
+pub mod Whole
+pub mod SiteLaws
+pub mod OutputLaws
+pub mod LevelSteps
+pub mod PlaceSteps
+pub mod Placed
+pub mod SameEntries
+pub mod PatternParts
+pub mod GroupSteps
+pub mod Room
+pub mod Counts
+pub mod FillSteps
+pub mod Filled
+pub mod KindTable
+pub mod SiteGates

@@ -1,2 +1,11 @@
 -- What the gates' code has of its own.
+pub mod Index
+pub mod Seen
+pub mod Counting
+pub mod Filling
+pub mod Inputs
+pub mod KindRows
 pub mod Sites
+pub mod Outputs
+pub mod Placing
+pub mod Alike

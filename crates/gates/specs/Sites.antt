@@ -1,5 +1,5 @@
 -- Which gate a site is.
-use Rattle.std.specs.Prelude.{ℕ, ◌≤◌, Bool, cond, List, ℤ, map, length, slice_range}
+use Rattle.std.specs.Prelude.{ℕ, ◌≤◌, cond, List, ℤ, map, length, slice_range}
 use Rattle.tables.specs.Literal.{literal}
 use Rattle.rules.specs.Patterns.{Gate, and_form, parity}
 use Rattle.gates.specs.declared.site.Site.{Site}

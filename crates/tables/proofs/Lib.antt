@@ -4,3 +4,4 @@ pub mod Clauses
 pub mod Checked
 pub mod LookUps
 pub mod Few
+pub mod Verdicts

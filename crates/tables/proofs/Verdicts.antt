@@ -1,5 +1,5 @@
 -- Tests in their order: where all accept, each does; where one refuses, it is one of them.
-use Rattle.std.proofs.Common.{◌≡◌, Bool, true, false, List, [], ◌∷◌, is_ok, Ok, Err, Result, sym, refl, ap, true≢false}
+use Rattle.std.proofs.Common.{◌≡◌, Bool, true, false, List, [], ◌∷◌, ◌++◌, is_ok, Ok, Err, Result, sym, refl, ap, true≢false}
 use mathlib.Core.List.{Memᴰ}
 use Rattle.std.specs.Result.{result_and}
 use Rattle.tables.specs.Numbers.{Verdict, number_of, answer_number, refuse, first_refusal}
@@ -47,3 +47,10 @@ pub refuse_number : (b : Bool) (r why : Refusal) → refuse b r ≡ Err why → 
 unfolding refuse
 refuse_number true r why e = ap answer_number e
 refuse_number false r why e = never tt why (sym e)
+
+-- Tests behind tests.
+pub tests-append : (xs ys : List Verdict) → first_refusal (xs ++ ys) ≡ result_and (first_refusal xs) (first_refusal ys)
+unfolding first_refusal
+tests-append [] ys = refl
+tests-append (Ok _ ∷ xs) ys = tests-append xs ys
+tests-append (Err why ∷ xs) ys = refl

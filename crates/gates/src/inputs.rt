@@ -1,0 +1,94 @@
+// The inputs of a gate that is found at an anchor: one for each of the anchor's other literals, and none is written down.
+ghost use Rattle.std.specs.Prelude.{◌≡◌, ◌<◌, length};
+ghost use Rattle.std.specs.List.{count_by};
+ghost use Rattle.tables.specs.Literal.{neg, holds, valued};
+ghost use Rattle.gates.specs.Sites.{Within};
+ghost use Rattle.gates.specs.Inputs.{input, inputs};
+ghost use Rattle.gates.specs.Counting.{counts};
+
+use crate::kinds::{CG, DG};
+use crate::site::Site;
+use tables::literal::{is_negative, literal, opposite, var};
+
+/// Whether a variable is true where each has its value: 1 for true, the first for variable 1.
+pub fn is_set(values: &[u8], variable: usize) -> bool
+    ensures { result ≡ valued values.now variable }
+{
+    variable > 0 && variable <= values.len() && values[variable - 1] == 1
+}
+
+/// Whether a literal is true where each variable has its value.
+pub fn is_true(values: &[u8], literal: usize) -> bool
+    ensures { result ≡ holds (valued values.now) literal }
+{
+    is_set(values, var(literal)) != is_negative(literal)
+}
+
+/// Whether an input counts as true: that of cg or dg as a literal, any other by its variable.
+fn is_counted(kind: u8, values: &[u8], input: usize) -> bool
+    ensures { result ≡ counts kind (valued values.now) input }
+{
+    if kind == CG || kind == DG {
+        is_true(values, input)
+    } else {
+        is_set(values, var(input))
+    }
+}
+
+/// The input that stands for one of the other literals of the anchor.
+#[tactic(auto, unfolding(crate::specs::Inputs::input))]
+pub fn input(site: Site, other: usize) -> usize
+    ensures { result ≡ input site other }
+{
+    if site.parity {
+        2 * var(other)
+    } else if is_negative(site.output) {
+        other
+    } else {
+        opposite(other)
+    }
+}
+
+/// How many inputs there are.
+#[tactic(auto, unfolding(crate::specs::Inputs::inputs, rules::specs::Patterns::others))]
+pub fn input_count(row: &[i32], site: Site) -> usize
+    requires { Within row.now site }
+    ensures { result ≡ length (inputs row.now site) }
+{
+    site.anchor(row)
+        .iter()
+        .map(|&entry| literal(entry))
+        .filter(|&l| l != site.output)
+        .map(|l| input(site, l))
+        .count()
+}
+
+/// How many inputs are negative.
+#[tactic(auto, unfolding(crate::specs::Inputs::inputs, rules::specs::Patterns::others))]
+pub fn negative_count(row: &[i32], site: Site) -> usize
+    requires { Within row.now site }
+    ensures { result ≡ count_by neg (inputs row.now site) }
+{
+    site.anchor(row)
+        .iter()
+        .map(|&entry| literal(entry))
+        .filter(|&l| l != site.output)
+        .map(|l| input(site, l))
+        .filter(|&l| is_negative(l))
+        .count()
+}
+
+/// How many inputs count as true.
+#[tactic(auto, unfolding(crate::specs::Inputs::inputs, rules::specs::Patterns::others))]
+pub fn true_count(row: &[i32], site: Site, kind: u8, values: &[u8]) -> usize
+    requires { Within row.now site }
+    ensures { result ≡ count_by (counts kind (valued values.now)) (inputs row.now site) }
+{
+    site.anchor(row)
+        .iter()
+        .map(|&entry| literal(entry))
+        .filter(|&l| l != site.output)
+        .map(|l| input(site, l))
+        .filter(|&l| is_counted(kind, values, l))
+        .count()
+}
