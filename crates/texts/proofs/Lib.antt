@@ -10,4 +10,5 @@ pub mod NumeralSteps
 pub mod HeaderSteps
 pub mod BodySteps
 pub mod RowSteps
+pub mod DecimalSteps
 pub mod WriteSteps

@@ -6,7 +6,7 @@ ghost use Rattle.texts.specs.Decimal.{decimal};
 pub const MOST_DIGITS: usize = 10;
 
 /// The decimal digits of a number, at the end of a row: the row, and the place of the first digit.
-#[tactic(auto, using(crate::proofs::WriteSteps::decimal_one, crate::proofs::WriteSteps::decimal_more, crate::proofs::WriteSteps::tenth_fits, crate::proofs::WriteSteps::two_left))]
+#[tactic(auto, using(crate::proofs::DecimalSteps::decimal_one, crate::proofs::DecimalSteps::decimal_more, crate::proofs::DecimalSteps::tenth_fits, crate::proofs::DecimalSteps::two_left))]
 pub fn decimal(number: usize) -> ([u8; MOST_DIGITS], usize)
     requires { number < 10 ^ 10 }
     ensures is { drop result.1 result.0 ≡ decimal number }

@@ -1,4 +1,4 @@
-// Clause text: what its definitions, its readers and its writers answer.
+// Clause text, read into a table and written from one.
 #![tactic(auto)]
 
 pub mod body;
