@@ -2,8 +2,8 @@
 #![tactic(auto)]
 
 pub mod andform;
-pub mod depends;
 pub mod ask;
+pub mod depends;
 pub mod fill;
 pub mod index;
 pub mod inputs;
