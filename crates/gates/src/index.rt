@@ -1,5 +1,4 @@
-// An index of a row's clauses by a key of their variables. heads: for each key where its first clause starts; links: for each
-// place where the next clause of the same key as the one that starts there does. The row's length stands for none.
+// An index of a row's clauses by a key of their variables: chains through the row, from each key's first clause on.
 ghost use Rattle.std.specs.Prelude.{◌≡◌, ◌+◌, ◌*◌, ◌%◌, ◌<◌, ◌≤◌, [], ◌∷◌, map, length, MatchOption};
 ghost use Rattle.tables.specs.Literal.{literal, var};
 ghost use Rattle.tables.specs.Clause.{clauses};
@@ -9,6 +8,15 @@ use tables::literal::{literal, var};
 
 /// How many keys there are.
 const KEYS: usize = 1024;
+
+/// The index of a row. The row's length stands for no place.
+#[derive(Clone, Copy)]
+pub struct Index<'a> {
+    /// For each key where its first clause starts.
+    pub heads: &'a [u16],
+    /// For each place where the next clause of the same key starts as that of the one which starts there.
+    pub links: &'a [u16],
+}
 
 /// The key of a clause that has one variable more before those of this key.
 fn key_with(key: usize, variable: usize) -> usize

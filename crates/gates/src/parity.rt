@@ -9,7 +9,7 @@ ghost use Rattle.rules.specs.Patterns.{anchors, first_of, found, group, parity};
 ghost use Rattle.gates.specs.Index.{Indexed};
 ghost use Rattle.gates.specs.Seen.{see, seen};
 
-use crate::index::{first_clause, key};
+use crate::index::{Index, first_clause, key};
 use crate::signs::{is_odd, signs};
 use tables::literal::{literal, var};
 
@@ -79,29 +79,29 @@ fn see_first(row: &[i32], anchor: &[i32], seen: u32) -> u32
 }
 
 /// The sign patterns of the anchor's group that the row has: a walk along the chain of the anchor's key.
-fn patterns_seen(row: &[i32], heads: &[u16], links: &[u16], anchor: &[i32]) -> u32
+fn patterns_seen(row: &[i32], index: Index, anchor: &[i32]) -> u32
     requires few { length anchor.now ≤ 5 }
-    requires index { Indexed row.now heads.now links.now }
+    requires indexed { Indexed row.now index.heads.now index.links.now }
     ensures { result ≡ seen (clauses row.now) (map literal anchor.now) }
 {
     let mut seen = 0;
-    let mut at = heads[key(anchor)] as usize;
+    let mut at = index.heads[key(anchor)] as usize;
     while at < row.len() {
         seen = see_first(row.split_at(at).1, anchor, seen);
-        at = links[at] as usize;
+        at = index.links[at] as usize;
     }
     seen
 }
 
 /// Whether the row has every clause of the anchor's group.
 #[tactic(auto, using(crate::proofs::Whole::whole_row))]
-fn is_whole(row: &[i32], heads: &[u16], links: &[u16], anchor: &[i32]) -> bool
+fn is_whole(row: &[i32], index: Index, anchor: &[i32]) -> bool
     requires some { 0 < length anchor.now }
     requires few { length anchor.now ≤ 5 }
-    requires index { Indexed row.now heads.now links.now }
+    requires indexed { Indexed row.now index.heads.now index.links.now }
     ensures { result ≡ list_all (λ d. among d (clauses row.now)) (group (map literal anchor.now)) }
 {
-    patterns_seen(row, heads, links, anchor).count_ones() == 1 << (anchor.len() - 1)
+    patterns_seen(row, index, anchor).count_ones() == 1 << (anchor.len() - 1)
 }
 
 /// Whether the row's first clause is of the anchor's group.
@@ -128,29 +128,29 @@ fn begins_same(row: &[i32], anchor: &[i32]) -> bool
 }
 
 /// Whether the anchor is the first clause of its group in the row: a walk along the chain of its key.
-fn is_first(row: &[i32], heads: &[u16], links: &[u16], anchor: &[i32]) -> bool
+fn is_first(row: &[i32], index: Index, anchor: &[i32]) -> bool
     requires some { 0 < length anchor.now }
     requires few { length anchor.now ≤ 5 }
-    requires index { Indexed row.now heads.now links.now }
+    requires indexed { Indexed row.now index.heads.now index.links.now }
     ensures { result ≡ same (first_of (group (map literal anchor.now)) (clauses row.now)) (map literal anchor.now) }
 {
-    let mut at = heads[key(anchor)] as usize;
+    let mut at = index.heads[key(anchor)] as usize;
     while at < row.len() {
         let rest = row.split_at(at).1;
         if begins_alike(rest, anchor) {
             return begins_same(rest, anchor);
         }
-        at = links[at] as usize;
+        at = index.links[at] as usize;
     }
     false
 }
 
 /// Whether the anchor is its parity group's first clause and the group is whole.
 #[tactic(auto, unfolding(rules::specs::Patterns::anchors, rules::specs::Patterns::found, rules::specs::Patterns::parity))]
-pub fn parity_found(row: &[i32], heads: &[u16], links: &[u16], anchor: &[i32]) -> bool
+pub fn parity_found(row: &[i32], index: Index, anchor: &[i32]) -> bool
     requires some { 0 < length anchor.now }
-    requires index { Indexed row.now heads.now links.now }
+    requires indexed { Indexed row.now index.heads.now index.links.now }
     ensures { (o : ℕ) → result ≡ (anchors (clauses row.now) (map literal anchor.now) && found (clauses row.now) (parity (map literal anchor.now) o)) }
 {
-    anchor.len() < 6 && is_first(row, heads, links, anchor) && is_whole(row, heads, links, anchor)
+    anchor.len() < 6 && is_first(row, index, anchor) && is_whole(row, index, anchor)
 }

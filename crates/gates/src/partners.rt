@@ -7,7 +7,7 @@ ghost use Rattle.tables.specs.Clause.{clauses};
 ghost use Rattle.gates.specs.Index.{Indexed};
 ghost use Rattle.rules.specs.Patterns.{side};
 
-use crate::index::{first_clause, key_of_two};
+use crate::index::{Index, first_clause, key_of_two};
 use tables::literal::{literal, opposite};
 
 /// Whether the clause is that of two literals.
@@ -28,32 +28,32 @@ fn begins_with(row: &[i32], x: usize, y: usize) -> bool
 }
 
 /// Whether the row has the clause of two literals: a walk along the chain of its key.
-fn has_clause(row: &[i32], heads: &[u16], links: &[u16], x: usize, y: usize) -> bool
-    requires { Indexed row.now heads.now links.now }
+fn has_clause(row: &[i32], index: Index, x: usize, y: usize) -> bool
+    requires { Indexed row.now index.heads.now index.links.now }
     ensures { result ≡ among (x ∷ y ∷ []) (clauses row.now) }
 {
-    let mut at = heads[key_of_two(x, y)] as usize;
+    let mut at = index.heads[key_of_two(x, y)] as usize;
     while at < row.len() {
         if begins_with(row.split_at(at).1, x, y) {
             return true;
         }
-        at = links[at] as usize;
+        at = index.links[at] as usize;
     }
     false
 }
 
 /// Whether the row has the clause of the opposites of two literals.
 #[tactic(auto, using(crate::proofs::Sides::side_rises, crate::proofs::Sides::side_falls))]
-pub fn has_side(row: &[i32], heads: &[u16], links: &[u16], output: usize, other: usize) -> bool
+pub fn has_side(row: &[i32], index: Index, output: usize, other: usize) -> bool
     requires differ { output ≢ other }
-    requires index { Indexed row.now heads.now links.now }
+    requires indexed { Indexed row.now index.heads.now index.links.now }
     ensures { result ≡ among (side output other) (clauses row.now) }
 {
     let x = opposite(output);
     let y = opposite(other);
     if x < y {
-        has_clause(row, heads, links, x, y)
+        has_clause(row, index, x, y)
     } else {
-        has_clause(row, heads, links, y, x)
+        has_clause(row, index, y, x)
     }
 }

@@ -10,8 +10,8 @@ pub loop-at-init : goal.loop-at-init
 loop-at-init c =
     let k = c.key_of_two.ensures in
     record {
-      left = among_first c.args.row.now c.args.heads.now c.args.links.now c.requires c.key_of_two.result k.within (c.args.x ∷ c.args.y ∷ []) (sym k.is);
-      on = on_first c.args.row.now c.args.heads.now c.args.links.now c.key_of_two.result _ c.requires k.within k.is;
+      left = among_first c.args.row.now c.args.index.heads.now c.args.index.links.now c.requires c.key_of_two.result k.within (c.args.x ∷ c.args.y ∷ []) (sym k.is);
+      on = on_first c.args.row.now c.args.index.heads.now c.args.index.links.now c.key_of_two.result _ c.requires k.within k.is;
     }
 
 pub loop-at-preserved : goal.loop-at-preserved
@@ -20,21 +20,21 @@ loop-at-preserved c =
     let d = c.args.x ∷ c.args.y ∷ [] in
     let f : among d (one (drop c.loop-at.at c.args.row.now)) ≡ false = ap (λ zs. among d (one zs)) (sym c.split_at.ensures.back) ∙ sym c.begins_with.ensures ∙ c.if-begins_with.false in
     record {
-      left = i.left ∙ among_next c.args.row.now c.args.heads.now c.args.links.now c.requires (key d) c.loop-at.at c.loop-at-test.true i.on d refl ∙ ap (λ b. b || among d (clauses (drop (get_or c.args.links.now c.loop-at.at 0) c.args.row.now))) f;
-      on = on_next c.args.row.now c.args.heads.now c.args.links.now c.requires (key d) c.loop-at.at c.loop-at-test.true i.on;
+      left = i.left ∙ among_next c.args.row.now c.args.index.heads.now c.args.index.links.now c.requires (key d) c.loop-at.at c.loop-at-test.true i.on d refl ∙ ap (λ b. b || among d (clauses (drop (get_or c.args.index.links.now c.loop-at.at 0) c.args.row.now))) f;
+      on = on_next c.args.row.now c.args.index.heads.now c.args.index.links.now c.requires (key d) c.loop-at.at c.loop-at-test.true i.on;
     }
 
 pub loop-at-smaller : goal.loop-at-smaller
 loop-at-smaller c =
     let i = c.loop-at.invariant in
-    let l = link_later c.args.row.now c.args.heads.now c.args.links.now c.requires (key (c.args.x ∷ c.args.y ∷ [])) c.loop-at.at c.loop-at-test.true i.on in omega arith
+    let l = link_later c.args.row.now c.args.index.heads.now c.args.index.links.now c.requires (key (c.args.x ∷ c.args.y ∷ [])) c.loop-at.at c.loop-at-test.true i.on in omega arith
 
 pub returns-then-begins_with : goal.returns-then-begins_with
 returns-then-begins_with c =
     let i = c.loop-at.invariant in
     let d = c.args.x ∷ c.args.y ∷ [] in
     let t : among d (one (drop c.loop-at.at c.args.row.now)) ≡ true = ap (λ zs. among d (one zs)) (sym c.split_at.ensures.back) ∙ sym c.begins_with.ensures ∙ c.if-begins_with.true in
-    sym (i.left ∙ among_next c.args.row.now c.args.heads.now c.args.links.now c.requires (key d) c.loop-at.at c.loop-at-test.true i.on d refl ∙ ap (λ b. b || among d (clauses (drop (get_or c.args.links.now c.loop-at.at 0) c.args.row.now))) t)
+    sym (i.left ∙ among_next c.args.row.now c.args.index.heads.now c.args.index.links.now c.requires (key d) c.loop-at.at c.loop-at-test.true i.on d refl ∙ ap (λ b. b || among d (clauses (drop (get_or c.args.index.links.now c.loop-at.at 0) c.args.row.now))) t)
 
 pub returns : goal.returns
 returns c =
