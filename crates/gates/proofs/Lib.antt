@@ -9,3 +9,4 @@ pub mod PatternParts
 pub mod GroupSteps
 pub mod Room
 pub mod TakeSteps
+pub mod GroupTaken
