@@ -5,7 +5,7 @@ use Rattle.std.proofs.lemmas.List.{drop_more, drop_all}
 use Rattle.tables.specs.Literal.{literal}
 use Rattle.rules.specs.Patterns.{Gate, parity}
 use Rattle.rules.specs.Taking.{allowed, place, take_first}
-use Rattle.gates.specs.Outputs.{groups_from}
+use Rattle.gates.specs.Offered.{groups_from}
 use Rattle.gates.proofs.TakeSteps.{first_turn}
 
 module _ (row : List ℤ) (start end i : ℕ) where

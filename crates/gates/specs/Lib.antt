@@ -3,3 +3,4 @@ pub mod Sites
 pub mod Outputs
 pub mod Placing
 pub mod Alike
+pub mod Offered

@@ -6,7 +6,7 @@ ghost use Rattle.tables.specs.Literal.{literal};
 ghost use Rattle.rules.specs.Patterns.{parity};
 ghost use Rattle.rules.specs.Taking.{allowed, take_first};
 ghost use Rattle.gates.specs.Sites.{Within, gate_of, gates_of};
-ghost use Rattle.gates.specs.Outputs.{groups_from};
+ghost use Rattle.gates.specs.Offered.{groups_from};
 
 use crate::depends::is_allowed;
 use crate::place::place;
@@ -57,7 +57,8 @@ fn offer_group(
     requires taken { All (Within row.now) (take count sites.old) }
     requires some { 1 ≤ length marks.old }
     requires few { count ≤ 1024 }
-    requires room { count < length sites.old }
+    requires there { count ≤ length sites.old }
+    requires room { allowed (length marks.old - 1) (gates_of row.now (take count sites.old)) (parity (map literal (slice_range row.now start end)) output) ≡ true → count < length sites.old }
     ensures is { result ≡ allowed (length marks.old - 1) (gates_of row.now (take count sites.old)) (parity (map literal (slice_range row.now start end)) output) }
     ensures order { OnTrue result (gates_of row.now (take (count + 1) sites.new)
         ≡ Rattle.rules.specs.Taking.place (length marks.old - 1) (gates_of row.now (take count sites.old)) (parity (map literal (slice_range row.now start end)) output)) }
@@ -88,7 +89,8 @@ pub fn offer_groups(
     requires taken { All (Within row.now) (take count sites.old) }
     requires some { 1 ≤ length marks.old }
     requires few { count ≤ 1024 }
-    requires room { count < length sites.old }
+    requires there { count ≤ length sites.old }
+    requires room { list_any (allowed (length marks.old - 1) (gates_of row.now (take count sites.old))) (groups_from row.now start end 0) ≡ true → count < length sites.old }
     ensures is { result ≡ list_any (allowed (length marks.old - 1) (gates_of row.now (take count sites.old))) (groups_from row.now start end 0) }
     ensures order { OnTrue result (gates_of row.now (take (count + 1) sites.new)
         ≡ take_first (allowed (length marks.old - 1)) (length marks.old - 1) (gates_of row.now (take count sites.old)) (groups_from row.now start end 0)) }

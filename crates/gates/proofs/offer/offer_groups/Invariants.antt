@@ -3,7 +3,7 @@ use Rattle.std.proofs.Common.{◌≡◌, ◌-◌, length, take}
 use Rattle.std.specs.List.{list_any}
 use Rattle.rules.specs.Taking.{allowed, take_first}
 use Rattle.gates.specs.Sites.{gates_of}
-use Rattle.gates.specs.Outputs.{groups_from}
+use Rattle.gates.specs.Offered.{groups_from}
 use Rattle.gates.proofs.offer.offer_groups.Given as goal
 
 abbrev pub invariant-loop-place : goal.invariant-loop-place
