@@ -24,3 +24,4 @@ pub mod Filled
 pub mod KindTable
 pub mod SiteGates
 pub mod TakeSteps
+pub mod GroupTaken

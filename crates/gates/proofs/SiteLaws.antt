@@ -49,3 +49,7 @@ module _ (row : List ℤ) (s : Site) where
   pub touched_at : (m : List ℕ) → touched m (gate_of row s) ≡ list_any (λ l. marked m (var l)) (others s.output (map literal (slice_range row s.start s.end)))
   unfolding touched
   touched_at m = sym (list_any-map var (marked m) (gate_of row s).inputs) ∙ ap (list_any (marked m)) vars_at ∙ list_any-map var (marked m) (others s.output (anchor_of row s))
+
+pub group_at : (row : List ℤ) (start end o : ℕ) → gate_of row (record { start = start; end = end; output = o; parity = true }) ≡ parity (map literal (slice_range row start end)) o
+unfolding gate_of
+group_at row start end o = refl

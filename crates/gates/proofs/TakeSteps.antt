@@ -9,7 +9,7 @@ use Rattle.rules.specs.Patterns.{Gate, parity, and_form, anchors, found, group}
 use Rattle.rules.specs.Taking.{candidates, place, take_first, take_at}
 
 module _ (may : List Gate → Gate → Bool) (n : ℕ) (gs : List Gate) where
-  first_turn : (g : Gate) (more : List Gate) → take_first may n gs (g ∷ more) ≡ cond (may gs g) (place n gs g) (take_first may n gs more)
+  pub first_turn : (g : Gate) (more : List Gate) → take_first may n gs (g ∷ more) ≡ cond (may gs g) (place n gs g) (take_first may n gs more)
   unfolding take_first
   first_turn g more = go (may gs g)
     where

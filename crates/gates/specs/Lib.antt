@@ -10,3 +10,4 @@ pub mod Sites
 pub mod Outputs
 pub mod Placing
 pub mod Alike
+pub mod Offered
