@@ -4,4 +4,5 @@ pub mod Counts
 pub mod FillSteps
 pub mod Filled
 pub mod KindTable
+pub mod PlaceSteps
 pub mod SiteGates

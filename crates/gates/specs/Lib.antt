@@ -4,4 +4,5 @@ pub mod Counting
 pub mod Filling
 pub mod Inputs
 pub mod KindRows
+pub mod Places
 pub mod Sites

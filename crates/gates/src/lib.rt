@@ -5,5 +5,6 @@ pub mod ask;
 pub mod fill;
 pub mod inputs;
 pub mod kinds;
+pub mod places;
 pub mod site;
 pub mod value;
