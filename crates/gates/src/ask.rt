@@ -4,13 +4,11 @@ ghost use Rattle.std.specs.Prelude.{◌≡◌, ◌+◌, ◌*◌, ◌≤◌, ◌<
 ghost use Rattle.std.specs.List.{All};
 ghost use Rattle.tables.specs.Literal.{var};
 ghost use Rattle.rules.specs.Ask.{asked};
-ghost use Rattle.gates.specs.Counting.{counts};
 ghost use Rattle.gates.specs.Places.{IsPlaced};
 ghost use Rattle.gates.specs.Asking.{gates_in, IsCircuit, IsTaken, Remembers, ended, known, recalled};
 
 use crate::fill::stands_for;
-use crate::inputs::{input, input_count, is_set};
-use crate::kinds::{CG, DG};
+use crate::inputs::{input, input_count, is_counted, is_set};
 use crate::places::{gate_for, place_all};
 use crate::site::Site;
 use crate::value::{rule_of, site_kind};
@@ -45,17 +43,6 @@ fn remember(memo: &mut [u8], variable: usize, value: bool)
 {
     if variable < memo.len() {
         memo[variable] = if value { 2 } else { 1 };
-    }
-}
-
-/// Whether an input of that value counts as true: that of cg or dg as a literal, any other by its variable.
-fn is_counted(kind: u8, input: usize, value: bool) -> bool
-    ensures { result ≡ counts kind (λ _. value) input }
-{
-    if kind == CG || kind == DG {
-        value != is_negative(input)
-    } else {
-        value
     }
 }
 
