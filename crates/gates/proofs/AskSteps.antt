@@ -1,9 +1,9 @@
 -- Laws of asking: what is remembered, which gate has an output, the levels that fall, and the inputs one by one.
-use Rattle.std.proofs.Common.{◌≡◌, ℕ, ◌+◌, ◌-◌, ◌*◌, ◌<◌, ◌≤◌, Bool, true, false, cond, not, eqb, ◌⊎◌, List, [], ◌∷◌, ℤ, map, length, drop, get_or, set, replicate, Option, None, Some, add_assoc, add-zero, sym, refl, ap, ◌∙◌, subst, ⊎_elim, arith, eq-eqb, ne_eqb, eqb-true, get_or-set_other}
+use Rattle.std.proofs.Common.{◌≡◌, ℕ, ◌+◌, ◌-◌, ◌*◌, ◌<◌, ◌≤◌, Bool, true, false, cond, not, eqb, ◌⊎◌, List, ℤ, map, length, drop, get_or, set, replicate, Option, None, Some, add_assoc, add-zero, sym, refl, ap, ◌∙◌, subst, ⊎_elim, arith, eq-eqb, ne_eqb, get_or-set_other}
 use mathlib.Core.List.Memᴰ
 use mathlib.Core.List.{Memᴰ}
-use Rattle.std.specs.List.{find, count_by}
-use Rattle.std.proofs.lemmas.Bool.{cases_eq, both_ways, eqb-false}
+use Rattle.std.specs.List.{count_by}
+use Rattle.std.proofs.lemmas.Bool.{cases_eq, eqb-false}
 use Rattle.std.proofs.lemmas.List.{drop_more, drop_all}
 use Rattle.std.proofs.lemmas.List.Sums.{sum_by-cons}
 use Rattle.ways.proofs.Rows.{mem-filter}
@@ -24,6 +24,7 @@ use Rattle.gates.specs.declared.ask.Circuit.{Circuit}
 use Rattle.gates.specs.Sites.{Within, entries_of, anchor_of, gate_of}
 use Rattle.gates.specs.Inputs.{input, inputs}
 use Rattle.gates.specs.Counting.{counts}
+use Rattle.gates.specs.Places.{IsGateFor}
 use Rattle.gates.specs.Asking.{gates_in, IsCircuit, IsTaken, ended, level, known, recalled, Remembers}
 use Rattle.gates.proofs.SiteGates.{inputs_are}
 use Rattle.gates.proofs.FillSteps.{output_is}
@@ -49,27 +50,12 @@ module _ (p : ℕ → Bool) (site : Site) (zs : List ℤ) (i : ℕ) (d : ℤ) wh
       rw (drop_more zs i d h, ne_eqb (literal (get_or zs i d)) site.output n)
       (sum_by-cons (λ x. cond (p x) 1 0) (input site (literal (get_or zs i d))) (map (input site) (others site.output (map literal (drop (i + 1) zs)))))
 
--- The search for a gate with an output.
-abbrev pub is_for : ℕ → Site → Bool
-is_for v site = eqb (var site.output) v
+-- The gate that was found, and that there is none.
+pub found : (sites : List Site) (v : ℕ) (r : Option Site) (s : Site) → IsGateFor sites v r → r ≡ Some s → Memᴰ s sites × (var s.output ≡ v)
+found sites v r s g e = subst (IsGateFor sites v) e g
 
-pub found : (v : ℕ) (sites : List Site) (s : Site) → find (is_for v) sites ≡ Some s → Memᴰ s sites × (var s.output ≡ v)
-found v [] s e = cc
-found v (t ∷ sites) s e = go (is_for v t) refl e (found v sites s)
-  where
-    go : (b : Bool) → is_for v t ≡ b → cond b (Some t) (find (is_for v) sites) ≡ Some s → (find (is_for v) sites ≡ Some s → Memᴰ s sites × (var s.output ≡ v))
-        → Memᴰ s (t ∷ sites) × (var s.output ≡ v)
-    go true q f r = let w : s ≡ t = cc in (Memᴰ.head w, ap (λ (z : Site). var z.output) w ∙ eqb-true _ _ q)
-    go false q f r = let (i, m) = r f in (Memᴰ.tail i, m)
-
-pub missing : (v : ℕ) (sites : List Site) → find (is_for v) sites ≡ None → (s : Site) → Memᴰ s sites → v ≡ var s.output → ⊥
-missing v [] e s i q = Memᴰ.not-nil i
-missing v (t ∷ sites) e s i q = go (is_for v t) refl e (missing v sites)
-  where
-    go : (b : Bool) → is_for v t ≡ b → ◌≡◌ {A = Option Site} (cond b (Some t) (find (is_for v) sites)) None
-        → (find (is_for v) sites ≡ None → (s : Site) → Memᴰ s sites → v ≡ var s.output → ⊥) → ⊥
-    go true w f r = cc
-    go false w f r = ⊎_elim (λ h. both_ways (is_for v t) w (eq-eqb (var t.output) v (sym (q ∙ ap (λ (z : Site). var z.output) h)))) (λ j. r f s j q) (Memᴰ.cases_cons i)
+pub missing : (sites : List Site) (v : ℕ) (r : Option Site) → IsGateFor sites v r → r ≡ None → (s : Site) → Memᴰ s sites → v ≡ var s.output → ⊥
+missing sites v r g e = subst (IsGateFor sites v) e g
 
 known_is : (b : Bool) → eqb (known b) 2 ≡ b
 known_is true = refl
@@ -99,11 +85,11 @@ module _ (c : Circuit) where
     inside g i = (k.outputs g i).1
 
     -- A variable that is no output has its given value in the end.
-    pub given_ended : (v : ℕ) → find (is_for v) c.sites.now ≡ None → valued c.given.now v ≡ ended c v
+    pub given_ended : (v : ℕ) → ((s : Site) → Memᴰ s c.sites.now → v ≡ var s.output → ⊥) → valued c.given.now v ≡ ended c v
     unfolding ended fill_gates
-    given_ended v e =
+    given_ended v h =
         sym (fill_other (length c.given.now) (gates_in c) k.outputs c.given.now v
-        (λ g i q. let (s, j, w) = Memᴰ.of_map (gate_of c.row.now) c.sites.now i in missing v c.sites.now e s j (q ∙ ap (λ (f : Gate). f.output) (sym w) ∙ output_is c.row.now s)))
+        (λ g i q. let (s, j, w) = Memᴰ.of_map (gate_of c.row.now) c.sites.now i in h s j (q ∙ ap (λ (f : Gate). f.output) (sym w) ∙ output_is c.row.now s)))
 
     module _ (site : Site) (t : IsTaken c site) where
       pub site_within : Within c.row.now site

@@ -25,3 +25,4 @@ pub mod KindTable
 pub mod SiteGates
 pub mod TakeSteps
 pub mod GroupTaken
+pub mod AskPlaces

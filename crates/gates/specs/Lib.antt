@@ -6,6 +6,7 @@ pub mod Counting
 pub mod Filling
 pub mod Inputs
 pub mod KindRows
+pub mod Places
 pub mod Sites
 pub mod Outputs
 pub mod Placing

@@ -1,15 +1,15 @@
 // Asking for one variable: a gate's value asks its inputs, and each input asks its own gate. Answers are remembered, so that
 // none is worked out twice.
-ghost use Rattle.std.specs.Prelude.{◌≡◌, ◌+◌, ◌*◌, ◌≤◌, ◌<◌, set, eqb};
-ghost use Rattle.std.specs.List.{find};
+ghost use Rattle.std.specs.Prelude.{◌≡◌, ◌+◌, ◌*◌, ◌≤◌, ◌<◌, set, ◌^◌, length};
+ghost use Rattle.std.specs.List.{All};
 ghost use Rattle.tables.specs.Literal.{var};
 ghost use Rattle.rules.specs.Ask.{asked};
-ghost use Rattle.gates.specs.Counting.{counts};
+ghost use Rattle.gates.specs.Places.{IsPlaced};
 ghost use Rattle.gates.specs.Asking.{gates_in, IsCircuit, IsTaken, Remembers, ended, known, recalled};
 
 use crate::fill::stands_for;
-use crate::inputs::{input, input_count, is_set};
-use crate::kinds::{CG, DG};
+use crate::inputs::{input, input_count, is_counted, is_set};
+use crate::places::{gate_for, place_all};
 use crate::site::Site;
 use crate::value::{rule_of, site_kind};
 use tables::literal::{is_negative, literal, var};
@@ -46,33 +46,11 @@ fn remember(memo: &mut [u8], variable: usize, value: bool)
     }
 }
 
-/// The gate whose output the variable is, if there is one.
-fn gate_for(circuit: &Circuit, variable: usize) -> Option<Site>
-    ensures { result ≡ find (λ site. eqb (var site.output) variable) circuit.now.sites.now }
-{
-    for &site in circuit.sites {
-        if var(site.output) == variable {
-            return Some(site);
-        }
-    }
-    None
-}
-
-/// Whether an input of that value counts as true: that of cg or dg as a literal, any other by its variable.
-fn is_counted(kind: u8, input: usize, value: bool) -> bool
-    ensures { result ≡ counts kind (λ _. value) input }
-{
-    if kind == CG || kind == DG {
-        value != is_negative(input)
-    } else {
-        value
-    }
-}
-
 /// A variable's value: its gate's, or the given one.
 #[cycle(asking)]
-fn variable_value(circuit: &Circuit, memo: &mut [u8], variable: usize) -> bool
+fn variable_value(circuit: &Circuit, places: &[u16], memo: &mut [u8], variable: usize) -> bool
     requires circuit { IsCircuit circuit.now }
+    requires placed { IsPlaced circuit.now.sites.now places.now }
     requires memo { Remembers circuit.now memo.old }
     ensures is { result ≡ ended circuit.now variable }
     ensures memo { Remembers circuit.now memo.new }
@@ -80,8 +58,8 @@ fn variable_value(circuit: &Circuit, memo: &mut [u8], variable: usize) -> bool
     if let Some(value) = recall(memo, variable) {
         return value;
     }
-    let value = match gate_for(circuit, variable) {
-        Some(site) => gate_value(circuit, memo, site),
+    let value = match gate_for(circuit.sites, places, variable) {
+        Some(site) => gate_value(circuit, places, memo, site),
         None => is_set(circuit.given, variable),
     };
     remember(memo, variable, value);
@@ -90,9 +68,10 @@ fn variable_value(circuit: &Circuit, memo: &mut [u8], variable: usize) -> bool
 
 /// A gate's value: its kind's rule of the values of its inputs.
 #[cycle(asking)]
-fn gate_value(circuit: &Circuit, memo: &mut [u8], site: Site) -> bool
+fn gate_value(circuit: &Circuit, places: &[u16], memo: &mut [u8], site: Site) -> bool
     requires circuit { IsCircuit circuit.now }
     requires site { IsTaken circuit.now site }
+    requires placed { IsPlaced circuit.now.sites.now places.now }
     requires memo { Remembers circuit.now memo.old }
     ensures is { result ≡ ended circuit.now (var site.output) }
     ensures memo { Remembers circuit.now memo.new }
@@ -103,7 +82,7 @@ fn gate_value(circuit: &Circuit, memo: &mut [u8], site: Site) -> bool
         let other = literal(entry);
         if other != site.output {
             let input = input(site, other);
-            let value = variable_value(circuit, memo, var(input));
+            let value = variable_value(circuit, places, memo, var(input));
             trues += usize::from(is_counted(kind, input, value));
         }
     }
@@ -115,9 +94,13 @@ fn gate_value(circuit: &Circuit, memo: &mut [u8], site: Site) -> bool
 pub fn ask(circuit: &Circuit, stands: &[u16], variable: usize) -> bool
     requires circuit { IsCircuit circuit.now }
     requires few { variable ≤ 1024 }
+    requires few_gates { length circuit.now.sites.now < 2 ^ 16 }
+    requires outputs { All (λ site. var site.output ≤ 1024) circuit.now.sites.now }
     ensures { result ≡ asked stands.now (gates_in circuit.now) circuit.now.given.now variable }
 {
+    let mut places = [0; ROOM];
+    place_all(circuit.sites, &mut places);
     let mut memo = [0; ROOM];
     let literal = stands_for(stands, variable);
-    variable_value(circuit, &mut memo, var(literal)) != is_negative(literal)
+    variable_value(circuit, &places, &mut memo, var(literal)) != is_negative(literal)
 }

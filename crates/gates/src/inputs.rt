@@ -24,14 +24,14 @@ pub fn is_true(values: &[u8], literal: usize) -> bool
     is_set(values, var(literal)) != is_negative(literal)
 }
 
-/// Whether an input counts as true: that of cg or dg as a literal, any other by its variable.
-fn is_counted(kind: u8, values: &[u8], input: usize) -> bool
-    ensures { result ≡ counts kind (valued values.now) input }
+/// Whether an input of that value counts as true: that of cg or dg as a literal, any other by its variable.
+pub fn is_counted(kind: u8, input: usize, value: bool) -> bool
+    ensures { result ≡ counts kind (λ _. value) input }
 {
     if kind == CG || kind == DG {
-        is_true(values, input)
+        value != is_negative(input)
     } else {
-        is_set(values, var(input))
+        value
     }
 }
 
@@ -89,6 +89,6 @@ pub fn true_count(row: &[i32], site: Site, kind: u8, values: &[u8]) -> usize
         .map(|&entry| literal(entry))
         .filter(|&l| l != site.output)
         .map(|l| input(site, l))
-        .filter(|&l| is_counted(kind, values, l))
+        .filter(|&l| is_counted(kind, l, is_set(values, var(l))))
         .count()
 }

@@ -16,5 +16,6 @@ pub mod partners;
 pub mod place;
 pub mod residue;
 pub mod signs;
+pub mod places;
 pub mod site;
 pub mod value;

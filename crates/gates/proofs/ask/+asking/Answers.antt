@@ -1,9 +1,9 @@
 -- Asking goes down the levels, and every answer is right.
-use Rattle.std.proofs.Common.{◌≡◌, ◌-◌, ◌*◌, ◌<◌, cond, get_or, pos, ap, ◌∙◌, arith, rules, sym}
+use Rattle.std.proofs.Common.{◌≡◌, ◌-◌, ◌*◌, ◌<◌, cond, get_or, pos, ap, ◌∙◌, arith, rules}
 use Rattle.tables.specs.Literal.{literal, var}
 use Rattle.gates.specs.Asking.{IsTaken, ended, level}
 use Rattle.gates.proofs.SiteGates.{value_counted}
-use Rattle.gates.proofs.AskSteps.{site_within, all_counted, none_counted, turn_output, turn_input, low_turn, gate_ended, gate_level, input_falls, remembers_more, given_ended, found}
+use Rattle.gates.proofs.AskSteps.{site_within, all_counted, none_counted, turn_output, turn_input, low_turn, gate_ended, gate_level, input_falls, remembers_more, given_ended, found, missing}
 use Rattle.gates.proofs.ask.+asking.Goals as goal
 use Rattle.gates.proofs.ask.+asking.Goals.{gate_value-then-other-site, gate_value-else-other-site, variable_value-in-Some-gate_for, variable_value-in-None}
 
@@ -46,7 +46,7 @@ gate_value-variable_value-value-requires t c =
           c.input-input.ensures
           c.var.ensures,
     ) in
-    (r, (c.requires.circuit, c.loop-entry.invariant.memo))
+    (r, (c.requires.circuit, (c.requires.placed, c.loop-entry.invariant.memo)))
 
 pub gate_value-loop-entry-preserved : goal.gate_value-loop-entry-preserved
 gate_value-loop-entry-preserved t c =
@@ -98,19 +98,19 @@ gate_value-returns-clause-is t c =
 
 pub variable_value-gate_value-value-requires : goal.variable_value-gate_value-value-requires
 variable_value-gate_value-value-requires t c =
-    let (member, at) = found c.args.variable c.args.circuit.now.sites.now c.in-Some-gate_for.site (sym c.gate_for.ensures ∙ c.in-Some-gate_for.is) in
+    let (member, at) = found c.args.circuit.now.sites.now c.args.variable c.gate_for.result c.in-Some-gate_for.site c.gate_for.ensures c.in-Some-gate_for.is in
     let taken : IsTaken c.args.circuit.now c.in-Some-gate_for.site = record { member = member } in
     let r : 2 * level c.args.circuit.now (var c.in-Some-gate_for.site.output) - 1 < t = omega (arith, gate_level c.args.circuit.now c.requires.circuit c.in-Some-gate_for.site taken, ap (level c.args.circuit.now) at) in
-    (r, (c.requires.circuit, (taken, c.requires.memo)))
+    (r, (c.requires.circuit, (taken, (c.requires.placed, c.requires.memo))))
 
 pub variable_value-returns-clause-is : goal.variable_value-returns-clause-is
 variable_value-returns-clause-is t c =
     elim c.match-gate_for.branch [
       | variable_value-in-Some-gate_for w ↦ (
           w.value-is ∙ w.gate_value-value.ensures.is
-          ∙ ap (ended c.args.circuit.now) (found c.args.variable c.args.circuit.now.sites.now w.in-Some-gate_for.site (sym c.gate_for.ensures ∙ w.in-Some-gate_for.is)).1
+          ∙ ap (ended c.args.circuit.now) (found c.args.circuit.now.sites.now c.args.variable c.gate_for.result w.in-Some-gate_for.site c.gate_for.ensures w.in-Some-gate_for.is).1
           )
-      | variable_value-in-None w ↦ w.value-is ∙ w.is_set-value.ensures ∙ given_ended c.args.circuit.now c.requires.circuit c.args.variable (sym c.gate_for.ensures ∙ w.in-None.is)
+      | variable_value-in-None w ↦ w.value-is ∙ w.is_set-value.ensures ∙ given_ended c.args.circuit.now c.requires.circuit c.args.variable (missing c.args.circuit.now.sites.now c.args.variable c.gate_for.result c.gate_for.ensures w.in-None.is)
     ]
 
 pub variable_value-returns-clause-memo : goal.variable_value-returns-clause-memo
