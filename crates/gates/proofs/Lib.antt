@@ -10,3 +10,4 @@ pub mod GroupSteps
 pub mod Room
 pub mod TakeSteps
 pub mod GroupTaken
+pub mod FormTaken

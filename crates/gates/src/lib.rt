@@ -2,6 +2,7 @@
 #![tactic(auto)]
 
 pub mod depends;
+pub mod forms;
 pub mod levels;
 pub mod offer;
 pub mod outputs;
