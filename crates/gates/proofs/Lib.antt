@@ -26,3 +26,4 @@ pub mod SiteGates
 pub mod TakeSteps
 pub mod GroupTaken
 pub mod AskPlaces
+pub mod FormTaken

@@ -53,3 +53,7 @@ module _ (row : List ℤ) (s : Site) where
 pub group_at : (row : List ℤ) (start end o : ℕ) → gate_of row (record { start = start; end = end; output = o; parity = true }) ≡ parity (map literal (slice_range row start end)) o
 unfolding gate_of
 group_at row start end o = refl
+
+pub form_at : (row : List ℤ) (start end o : ℕ) → gate_of row (record { start = start; end = end; output = o; parity = false }) ≡ and_form (map literal (slice_range row start end)) o
+unfolding gate_of
+form_at row start end o = refl

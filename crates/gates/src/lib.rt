@@ -8,6 +8,7 @@ pub mod fill;
 pub mod index;
 pub mod inputs;
 pub mod kinds;
+pub mod forms;
 pub mod levels;
 pub mod offer;
 pub mod outputs;

@@ -35,7 +35,7 @@ pub fn offer(row: &[i32], sites: &mut [Site], count: usize, site: Site, marks: &
 }
 
 /// The literal of a clause at a place.
-fn literal_at(clause: &[i32], place: usize) -> usize
+pub fn literal_at(clause: &[i32], place: usize) -> usize
     requires { place < length clause.now }
     ensures { result ≡ literal (get_or clause.now place (pos 0)) }
 {
