@@ -11,3 +11,4 @@ pub mod Room
 pub mod TakeSteps
 pub mod GroupTaken
 pub mod FormTaken
+pub mod AnchorTurn
