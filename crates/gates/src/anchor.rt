@@ -8,7 +8,7 @@ ghost use Rattle.tables.specs.Clause.{clauses};
 ghost use Rattle.rules.specs.Patterns.{anchors, and_form, group};
 ghost use Rattle.rules.specs.Taking.{allowed, take_first};
 ghost use Rattle.gates.specs.Sites.{Within, gates_of};
-ghost use Rattle.gates.specs.Offered.{groups_from};
+ghost use Rattle.gates.specs.Offered.{forms_from, groups_from};
 
 use crate::forms::offer_forms;
 use crate::offer::offer_groups;
@@ -28,7 +28,8 @@ fn offer_found_group(
     requires taken { All (Within row.now) (take count sites.old) }
     requires some { 1 ≤ length marks.old }
     requires few { count ≤ 1024 }
-    requires room { count < length sites.old }
+    requires there { count ≤ length sites.old }
+    requires room { (is_group && list_any (allowed (length marks.old - 1) (gates_of row.now (take count sites.old))) (groups_from row.now start end 0)) ≡ true → count < length sites.old }
     ensures is { result ≡ (is_group && list_any (allowed (length marks.old - 1) (gates_of row.now (take count sites.old))) (groups_from row.now start end 0)) }
     ensures order { OnTrue result (gates_of row.now (take (count + 1) sites.new)
         ≡ take_first (allowed (length marks.old - 1)) (length marks.old - 1) (gates_of row.now (take count sites.old)) (groups_from row.now start end 0)) }
@@ -60,7 +61,9 @@ pub fn take_at(
     requires taken { All (Within row.now) (take count sites.old) }
     requires some { 1 ≤ length marks.old }
     requires few { count ≤ 1024 }
-    requires room { count < length sites.old }
+    requires there { count ≤ length sites.old }
+    requires group_room { (is_group && list_any (allowed (length marks.old - 1) (gates_of row.now (take count sites.old))) (groups_from row.now start end 0)) ≡ true → count < length sites.old }
+    requires form_room { list_any (allowed (length marks.old - 1) (gates_of row.now (take count sites.old))) (forms_from (clauses row.now) row.now start end 0) ≡ true → count < length sites.old }
     ensures is { gates_of row.now (take result sites.new)
         ≡ Rattle.rules.specs.Taking.take_at (allowed (length marks.old - 1)) (length marks.old - 1) (clauses row.now) (gates_of row.now (take count sites.old)) (map literal (slice_range row.now start end)) }
     ensures within { All (Within row.now) (take result sites.new) }
