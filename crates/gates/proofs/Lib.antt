@@ -27,3 +27,4 @@ pub mod TakeSteps
 pub mod GroupTaken
 pub mod AskPlaces
 pub mod FormTaken
+pub mod AnchorTurn

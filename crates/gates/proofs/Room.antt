@@ -2,14 +2,14 @@
 use Rattle.std.proofs.Common.{◌≡◌, ◌∙◌, refl, sym, ℕ, ◌+◌, ◌<◌, ◌≤◌, true, false, List, [], ◌∷◌, map, length, eqb, arith, ne_eqb, eq-eqb}
 use mathlib.Core.List.Memᴰ
 use mathlib.Core.List.{Memᴰ}
-use Rattle.std.specs.List.{IsDistinct, AllByRecursion}
+use Rattle.std.specs.List.{list_any, IsDistinct, AllByRecursion}
 use Rattle.std.proofs.lemmas.Bool.{not-true, and_parts}
 use Rattle.std.proofs.lemmas.List.{length-map}
 use Rattle.std.proofs.lemmas.Map.Keys.{IsDistinct-cons}
 use Rattle.std.proofs.lemmas.Map.Steps.{length-le_from_distinct_below}
 use Rattle.ways.proofs.Bools.{clash_of}
 use Rattle.ways.proofs.Members.{has-mem}
-use Rattle.ways.proofs.Rows.{none_of}
+use Rattle.ways.proofs.Rows.{none_of, list_any-mem}
 use Rattle.rules.specs.Patterns.{Gate}
 use Rattle.rules.specs.Taking.{is_output, allowed}
 use Rattle.circuits.proofs.Order.{Ordered, none, next}
@@ -51,3 +51,8 @@ module _ (n : ℕ) {gs : List Gate} (g : Gate) (order : Ordered gs) (inside : (h
   allowed_room =
       let h : length all ≤ n + 1 = length-le_from_distinct_below all (n + 1) all_distinct (λ q e. all_below q (has-mem q all e)) in
       omega (arith, h, length-map gs (λ (g : Gate). g.output))
+
+-- Where one of some candidates is allowed.
+pub any_room : (n : ℕ) {gs : List Gate} (order : Ordered gs) (inside : (h : Gate) → Memᴰ h gs → (1 ≤ h.output) × (h.output ≤ n)) (xs : List Gate)
+    → ((g : Gate) → Memᴰ g xs → (1 ≤ g.output) × (g.output ≤ n)) → list_any (allowed n gs) xs ≡ true → length gs < n
+any_room n {gs = gs} order inside xs low e = let (g, i, ok) = list_any-mem (allowed n gs) xs e in allowed_room n g order inside (low g i).0 (low g i).1 ok

@@ -3,6 +3,7 @@
 
 pub mod andform;
 pub mod ask;
+pub mod anchor;
 pub mod depends;
 pub mod fill;
 pub mod index;
