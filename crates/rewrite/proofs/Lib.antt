@@ -1,0 +1,2 @@
+-- The program has one law.
+pub mod Room

@@ -1,0 +1,10 @@
+-- The row's front is within the row, and what is written within the buffer.
+use Rattle.std.proofs.Common.{sym, ◌∙◌, length, rules}
+use Rattle.rewrite.proofs.Room.{read_within, written_within}
+use Rattle.rewrite.proofs.rewrite.Goals as goal
+
+pub split_at-requires : goal.split_at-requires
+split_at-requires c = ?
+
+pub returns : goal.returns
+returns c = search (rules, written_within)

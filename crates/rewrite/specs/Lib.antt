@@ -1,0 +1,1 @@
+-- The program has no words of its own.

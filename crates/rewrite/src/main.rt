@@ -1,0 +1,51 @@
+// A program: clause text on standard input, and the same in written form on standard output, or a line with X, the number
+// and the place of what is wrong.
+#![tactic(auto)]
+
+ghost use Rattle.std.specs.Prelude.{◌≤◌, length, IfOk};
+
+use std::io;
+use std::io::{Read, Write};
+
+use tables::numbers::Refusal;
+use tables::sizes::{MOST_BYTES, MOST_ENTRIES};
+use texts::reading::read;
+use texts::writing::write;
+
+/// The most bytes of a written table: a header line, and an entry in at most six bytes.
+const MOST_WRITTEN: usize = 131_072;
+
+/// Fills the buffer from the reader as far as both go; how many bytes were read.
+fn fill(input: &mut impl Read, buffer: &mut [u8]) -> io::Result<usize>
+    ensures { IfOk result (λ filled. filled ≤ length buffer.new) }
+{
+    let mut filled = 0;
+    while filled < buffer.len() {
+        let more = input.read(&mut buffer[filled..])?;
+        if more == 0 {
+            break;
+        }
+        filled += more;
+    }
+    Ok(filled)
+}
+
+/// The text in written form, at the front of `out`; how many bytes it has.
+fn rewrite(text: &[u8], out: &mut [u8]) -> Result<usize, Refusal>
+    ensures { IfOk result (λ bytes. bytes ≤ length out.new) }
+{
+    let mut row = [0i32; MOST_ENTRIES];
+    let read = read(text, &mut row)?;
+    write(read.variables, row.split_at(read.entries).0, out)
+}
+
+fn main(rt: HostRuntime) -> io::Result<()> {
+    // One byte more than a text may have, so that a longer one is seen.
+    let mut text = [0u8; MOST_BYTES + 1];
+    let read = fill(&mut rt.reader(), &mut text)?;
+    let mut out = [0u8; MOST_WRITTEN];
+    match rewrite(text.split_at(read).0, &mut out) {
+        Ok(bytes) => io::writer(&rt).write_all(out.split_at(bytes).0),
+        Err(why) => println!(rt; "X\t{}\t{}", why.number(), why.place()),
+    }
+}
