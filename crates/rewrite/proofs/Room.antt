@@ -1,5 +1,5 @@
 -- A reading that is accepted has room in the row.
-use Rattle.std.proofs.Common.{◌≡◌, sym, ap, ℕ, ◌≤◌, Bool, true, false, ltb, ltb-false, List, length, ℤ}
+use Rattle.std.proofs.Common.{◌≡◌, ℕ, ◌≤◌, ltb, ltb-false, List, length, ℤ}
 use Rattle.std.specs.Prelude.{Result, Ok, Err}
 use Rattle.std.specs.Result.{result_and}
 use Rattle.tables.specs.Numbers.{Verdict, refuse, first_refusal}

@@ -6,7 +6,6 @@ ghost use Rattle.std.specs.Prelude.{◌≤◌, length, IfOk};
 
 use std::io;
 use std::io::{Read, Write};
-
 use tables::numbers::Refusal;
 use tables::sizes::{MOST_BYTES, MOST_ENTRIES};
 use texts::reading::read;
