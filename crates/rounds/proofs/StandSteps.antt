@@ -1,8 +1,8 @@
 -- Laws of the row that says what each variable stands for.
-use Rattle.std.proofs.Common.{◌≡◌, refl, sym, subst, ℕ, zero, suc, ◌+◌, ◌-◌, ◌<◌, ◌≤◌, List, [], ◌∷◌, ◌++◌, length, get_or, set, take, drop, map, arith, ℤ, pos, ◌*◌, Bool, true, false, cond, eqb, ltb}
+use Rattle.std.proofs.Common.{◌≡◌, ◌∙◌, refl, sym, ap, subst, ℕ, zero, suc, ◌+◌, ◌-◌, ◌<◌, ◌≤◌, List, [], ◌∷◌, ◌++◌, length, get_or, set, take, drop, map, arith, ℤ, pos, ◌*◌, Bool, true, false, cond, eqb, ltb}
 use Rattle.std.proofs.Common.{append_assoc, append-nil}
 use Rattle.std.proofs.lemmas.List.{take_more_set, drop_more, drop-set-lt, take_all, drop_all, length-map}
-use Rattle.std.specs.List.{All, range_with_len}
+use Rattle.std.specs.List.{All, fold, range_with_len}
 use Rattle.std.proofs.lemmas.List.FromFn.{length-map-range_with_len}
 use Rattle.std.proofs.lemmas.List.Elements.{All-map, All-nil, All-cons, All-weaker}
 use Rattle.tables.specs.Literal.{literal, var, neg, opp}
@@ -101,6 +101,24 @@ unfolding join
 join_coded s c w g h =
     meet_coded (replace s (get_or c 0 0)) (opp (replace s (get_or c 1 0))) s (replace_coded s (get_or c 0 0) w g) (opp_within (length s) (replace s (get_or c 1 0)) (replace_coded s (get_or c 1 0) w h)) w
 
+-- The row keeps its length.
+meet_size : (a b : ℕ) (s : List ℕ) → length (meet a b s) ≡ length s
+unfolding meet
+meet_size a b s = go (eqb (var a) (var b)) (ltb (var a) (var b))
+  where
+    go : (p q : Bool) → length (cond p s (cond q (map (give_way a b) s) (map (give_way b a) s))) ≡ length s
+    go true q = refl
+    go false true = length-map s (give_way a b)
+    go false false = length-map s (give_way b a)
+
+pub join_size : (s c : List ℕ) → length (join s c) ≡ length s
+unfolding join
+join_size s c = meet_size _ _ s
+
+joined_size : (s : List ℕ) (cs : List (List ℕ)) → length (fold join s cs) ≡ length s
+joined_size s [] = refl
+joined_size s (c ∷ cs) = joined_size (join s c) cs ∙ join_size s c
+
 -- The two sides of a clause of two literals.
 pub two_sides : (c : List ℤ) → length c ≡ 2 → map literal c ≡ literal (get_or c 0 (pos 0)) ∷ literal (get_or c 1 (pos 0)) ∷ []
 two_sides [] e = absurd (omega arith)
@@ -133,6 +151,15 @@ range_within a zero = All-nil (λ v. (a ≤ v) × (v < a + 0))
 range_within a (suc k) =
     All-cons (λ v. (a ≤ v) × (v < a + suc k)) a (range_with_len (a + 1) k) (omega arith, omega arith)
     (All-weaker (λ v. (a + 1 ≤ v) × (v < a + 1 + k)) (λ v. (a ≤ v) × (v < a + suc k)) (λ v h. (omega arith, omega arith)) (range_with_len (a + 1) k) (range_within (a + 1) k))
+
+pub starting_size : (s m : List ℕ) (n : ℕ) → 1 ≤ n → s ≡ starting (n - 1) m → length s ≡ n
+unfolding starting
+starting_size s m n h e =
+    let more : suc (n - 1) ≡ n = omega arith in
+    ap length e ∙ ap suc (length-map-range_with_len (alone m) 1 (n - 1)) ∙ more
+
+pub leaders_size : (first s m : List ℕ) (cs : List (List ℕ)) (n : ℕ) → 1 ≤ n → first ≡ starting (n - 1) m → s ≡ fold join first cs → length s ≡ n
+leaders_size first s m cs n h e f = ap length f ∙ joined_size first cs ∙ starting_size first m n h e
 
 pub starting_coded : (n : ℕ) (m : List ℕ) → Coded (starting n m)
 unfolding starting

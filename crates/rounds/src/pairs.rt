@@ -5,10 +5,10 @@ ghost use Rattle.tables.specs.Literal.{literal, var};
 ghost use Rattle.tables.specs.Clause.{clauses};
 ghost use Rattle.rules.specs.Pairs.{pairs, torn, join};
 ghost use Rattle.rounds.specs.PairChains.{Indexed};
-ghost use Rattle.rounds.specs.Pairs.{Coded, paired_in, found};
+ghost use Rattle.rounds.specs.Pairs.{paired_in, found};
 
 use crate::pair_chains::{HEADS, has_clause, index};
-use crate::stands::{join, replacement};
+use crate::stands::Stands;
 use tables::literal::{literal, opposite};
 use tables::sizes::MOST_ENTRIES;
 
@@ -42,17 +42,14 @@ fn is_pair(row: &[i32], head: &[u16], next: &[u16], clause: &[i32]) -> bool
 }
 
 /// Joins each pair of the row: whether there is one.
-#[tactic(auto, using(crate::proofs::PairSteps::kept_begins, crate::proofs::PairSteps::kept_grows, crate::proofs::PairSteps::kept_pair, crate::proofs::PairSteps::kept_other, crate::proofs::PairSteps::kept_none))]
-fn join_each(row: &[i32], head: &[u16], next: &[u16], stands: &mut [u16]) -> bool
+#[tactic(auto, using(crate::proofs::PairSteps::kept_begins, crate::proofs::PairSteps::kept_none))]
+fn join_each(row: &[i32], head: &[u16], next: &[u16], stands: &mut Stands) -> bool
     requires indexed { Indexed row.now head.now next.now }
     requires room { length row.now ≤ length next.now }
     requires below { All (λ e. 2 * var (literal e) + 1 < length head.now) row.now }
-    requires inside { All (λ e. var (literal e) < length stands.old) row.now }
-    requires few { length stands.old ≤ 1025 }
-    requires coded { Coded stands.old }
-    ensures leaders { stands.new ≡ fold join stands.old (pairs (clauses row.now)) }
+    requires inside { All (λ e. var (literal e) < length stands.old.row.now) row.now }
+    ensures leaders { stands.new.row.now ≡ fold join stands.old.row.now (pairs (clauses row.now)) }
     ensures any { result ≡ not (eqb (length (pairs (clauses row.now))) 0) }
-    ensures still_coded { Coded stands.new }
 {
     let mut any = false;
     let mut start = 0;
@@ -60,7 +57,7 @@ fn join_each(row: &[i32], head: &[u16], next: &[u16], stands: &mut [u16]) -> boo
         if entry == 0 {
             let clause = &row[start..place];
             if is_pair(row, head, next, clause) {
-                join(stands, clause);
+                stands.join(clause);
                 any = true;
             }
             start = place + 1;
@@ -71,20 +68,20 @@ fn join_each(row: &[i32], head: &[u16], next: &[u16], stands: &mut [u16]) -> boo
 
 /// Whether the sides of a pair, which are opposites, stand for one literal.
 #[tactic(auto, using(crate::proofs::StandSteps::two_sides), unfolding(rules::specs::Pairs::torn))]
-fn is_torn(stands: &[u16], clause: &[i32]) -> bool
+fn is_torn(stands: &Stands, clause: &[i32]) -> bool
     requires { length clause.now ≡ 2 }
-    ensures { result ≡ torn stands.now (map literal clause.now) }
+    ensures { result ≡ torn stands.now.row.now (map literal clause.now) }
 {
-    replacement(stands, literal(clause[0])) == replacement(stands, literal(clause[1]))
+    stands.replacement(literal(clause[0])) == stands.replacement(literal(clause[1]))
 }
 
 /// Whether a pair of the row is torn.
 #[tactic(auto, using(crate::proofs::PairSteps::kept_begins, crate::proofs::PairSteps::kept_grows, crate::proofs::PairSteps::kept_pair, crate::proofs::PairSteps::kept_other, crate::proofs::PairSteps::kept_none))]
-fn any_torn(row: &[i32], head: &[u16], next: &[u16], stands: &[u16]) -> bool
+fn any_torn(row: &[i32], head: &[u16], next: &[u16], stands: &Stands) -> bool
     requires indexed { Indexed row.now head.now next.now }
     requires room { length row.now ≤ length next.now }
     requires below { All (λ e. 2 * var (literal e) + 1 < length head.now) row.now }
-    ensures { result ≡ list_any (torn stands.now) (pairs (clauses row.now)) }
+    ensures { result ≡ list_any (torn stands.now.row.now) (pairs (clauses row.now)) }
 {
     let mut start = 0;
     for (place, &entry) in row.iter().enumerate() {
@@ -100,14 +97,11 @@ fn any_torn(row: &[i32], head: &[u16], next: &[u16], stands: &[u16]) -> bool
 }
 
 /// Joins the pairs of a row: each variable then stands for the literal of the lowest variable of its class.
-pub fn join_pairs(row: &[i32], stands: &mut [u16]) -> Pairs
-    requires inside { All (λ e. var (literal e) < length stands.old) row.now }
-    requires few { length stands.old ≤ 1025 }
-    requires coded { Coded stands.old }
+pub fn join_pairs(row: &[i32], stands: &mut Stands) -> Pairs
+    requires inside { All (λ e. var (literal e) < length stands.old.row.now) row.now }
     requires short { length row.now ≤ 16384 }
-    ensures leaders { stands.new ≡ fold join stands.old (pairs (clauses row.now)) }
-    ensures found { result ≡ found stands.new (pairs (clauses row.now)) }
-    ensures still_coded { Coded stands.new }
+    ensures leaders { stands.new.row.now ≡ fold join stands.old.row.now (pairs (clauses row.now)) }
+    ensures found { result ≡ found stands.new.row.now (pairs (clauses row.now)) }
 {
     let mut head = [0; HEADS];
     let mut next = [0; MOST_ENTRIES];

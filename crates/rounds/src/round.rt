@@ -8,7 +8,7 @@ ghost use Rattle.rounds.specs.Rounds.{Turns, kept_of};
 use crate::clean::clean;
 use crate::contradiction::contradicts;
 use crate::pairs::{Pairs, join_pairs};
-use crate::stands::{follow, start};
+use crate::stands::Stands;
 use crate::substitute::substitute;
 
 /// How a round ends.
@@ -47,16 +47,16 @@ pub fn round(
         return Turn::Stuck;
     }
     let kept = clean(row, entries, marks);
-    start(stands, marks);
-    match join_pairs(&row[..kept], stands) {
+    let mut stands = Stands::start(stands, marks);
+    match join_pairs(&row[..kept], &mut stands) {
         Pairs::Torn => Turn::Stuck,
         Pairs::NoPair => {
-            follow(all, stands);
+            stands.follow(all);
             Turn::Over(kept)
         }
         Pairs::Joined => {
-            follow(all, stands);
-            substitute(row, kept, stands);
+            stands.follow(all);
+            substitute(row, kept, &stands);
             Turn::On(kept)
         }
     }

@@ -10,7 +10,7 @@ ghost use Rattle.rounds.specs.Ended.{Ended};
 ghost use Rattle.rounds.specs.Rounds.{Settles};
 
 use crate::round::{Turn, round};
-use crate::stands::start;
+use crate::stands::Stands;
 use tables::numbers::Refusal;
 
 /// What the rounds come to.
@@ -31,7 +31,7 @@ fn begin(n: usize, table: &[i32], row: &mut [i32], all: &mut [u16])
     ensures row { take (length table.now) row.new ≡ table.now }
     ensures all { all.new ≡ starting n [] }
 {
-    start(all, &[]);
+    Stands::start(all, &[]);
     let (front, _) = row.split_at_mut(table.len());
     front.copy_from_slice(table);
 }

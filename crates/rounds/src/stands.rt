@@ -1,4 +1,4 @@
-// What each variable stands for: a row with a literal for each variable, or 0 or 1, its value.
+// What each variable stands for, by the pairs.
 ghost use Rattle.std.specs.Prelude.{◌≡◌, ◌+◌, ◌-◌, ◌*◌, ◌<◌, ◌≤◌, ◌^◌, map, length};
 ghost use Rattle.std.specs.List.{All};
 ghost use Rattle.tables.specs.Literal.{literal, var};
@@ -8,29 +8,12 @@ ghost use Rattle.rounds.specs.Pairs.{Coded};
 use crate::marks::is_marked;
 use tables::literal::{is_negative, literal, opposite, var};
 
-/// What a variable stands for: itself, where it is beyond the row.
-#[tactic(auto, unfolding(rules::specs::Pairs::stands))]
-pub fn stands_for(stands: &[u16], variable: usize) -> usize
-    requires { 2 * variable ≤ usize.MAX }
-    ensures { result ≡ Rattle.rules.specs.Pairs.stands stands.now variable }
-{
-    match stands.get(variable) {
-        Some(&literal) => usize::from(literal),
-        None => 2 * variable,
-    }
-}
-
-/// What a literal is replaced by.
-#[tactic(auto, unfolding(rules::specs::Pairs::replace))]
-pub fn replacement(stands: &[u16], literal: usize) -> usize
-    ensures { result ≡ replace stands.now literal }
-{
-    let standing = stands_for(stands, var(literal));
-    if is_negative(literal) {
-        opposite(standing)
-    } else {
-        standing
-    }
+/// What each variable stands for: a row with a literal of one of the row's variables, or 0 or 1, for each variable.
+#[derive(Drop)]
+pub struct Stands<'a> {
+    row: &'a mut [u16],
+    ghost few: { length row.now ≤ 1025 },
+    ghost coded: { Coded row.now },
 }
 
 /// What a variable stands for at first: a forced one for its value, any other for itself.
@@ -46,20 +29,6 @@ fn alone(marks: &[u8], variable: usize) -> usize
         0
     } else {
         2 * variable
-    }
-}
-
-/// Each variable at first: a forced one stands for its value, any other for itself.
-#[tactic(auto, using(crate::proofs::StandSteps::start_begins, crate::proofs::StandSteps::start_ends))]
-pub fn start(stands: &mut [u16], marks: &[u8])
-    requires some { 1 ≤ length stands.old }
-    requires few { length stands.old ≤ 1025 }
-    ensures is { stands.new ≡ starting (length stands.old - 1) marks.now }
-    ensures coded { Coded stands.new }
-{
-    stands[0] = 0;
-    for variable in 1..stands.len() {
-        stands[variable] = alone(marks, variable) as u16;
     }
 }
 
@@ -79,59 +48,98 @@ fn give_way(low: usize, high: usize, literal: usize) -> usize
     }
 }
 
-/// Lets a higher literal give way to a lower one in the whole row.
+/// Lets a higher literal give way to a lower one in a whole row.
 #[tactic(auto, using(crate::proofs::StandSteps::relabel_turns))]
-fn relabel(stands: &mut [u16], low: usize, high: usize)
+fn relabel(row: &mut [u16], low: usize, high: usize)
     requires { low + 1 < 2 ^ 16 }
-    ensures { stands.new ≡ map (give_way low high) stands.old }
+    ensures { row.new ≡ map (give_way low high) row.old }
 {
-    for place in stands.iter_mut() {
+    for place in row.iter_mut() {
         *place = give_way(low, high, usize::from(*place)) as u16;
     }
 }
 
 /// Makes two literals stand for one: that of the higher variable gives way.
 #[tactic(auto, unfolding(rules::specs::Pairs::meet))]
-fn meet(stands: &mut [u16], a: usize, b: usize)
+fn meet(row: &mut [u16], a: usize, b: usize)
     requires a_fits { a + 1 < 2 ^ 16 }
     requires b_fits { b + 1 < 2 ^ 16 }
-    ensures { stands.new ≡ meet a b stands.old }
+    ensures { row.new ≡ meet a b row.old }
 {
     if var(a) == var(b) {
         return;
     }
     if var(a) < var(b) {
-        relabel(stands, a, b);
+        relabel(row, a, b);
     } else {
-        relabel(stands, b, a);
+        relabel(row, b, a);
     }
 }
 
-/// Makes the two literals of a clause stand for opposites.
-#[tactic(auto, using(crate::proofs::StandSteps::two_sides, crate::proofs::StandSteps::replace_coded), unfolding(rules::specs::Pairs::join))]
-pub fn join(stands: &mut [u16], clause: &[i32])
-    requires two { length clause.now ≡ 2 }
-    requires inside { All (λ e. var (literal e) < length stands.old) clause.now }
-    requires few { length stands.old ≤ 1025 }
-    requires coded { Coded stands.old }
-    ensures is { stands.new ≡ join stands.old (map literal clause.now) }
-    ensures still_coded { Coded stands.new }
-{
-    let first = replacement(stands, literal(clause[0]));
-    let second = replacement(stands, literal(clause[1]));
-    meet(stands, first, opposite(second));
+impl<'a> Stands<'a> {
+    /// Each variable at first: a forced one stands for its value, any other for itself.
+    #[tactic(auto, using(crate::proofs::StandSteps::start_begins, crate::proofs::StandSteps::start_ends))]
+    pub fn start(row: &'a mut [u16], marks: &[u8]) -> Stands<'a>
+        requires some { 1 ≤ length row.old }
+        requires few { length row.old ≤ 1025 }
+        ensures is { result.row.now ≡ starting (length row.old - 1) marks.now }
+        ensures same_row { result.row.ghost_name ≡ row.entry.ghost_name }
+    {
+        row[0] = 0;
+        for variable in 1..row.len() {
+            row[variable] = alone(marks, variable) as u16;
+        }
+        Stands { row }
+    }
 }
 
-/// Takes each variable one round further: what it stood for is replaced by what that stands for.
-#[tactic(auto, using(crate::proofs::StandSteps::follow_turns, crate::proofs::StandSteps::replace_fits))]
-pub fn follow(all: &mut [u16], stands: &[u16])
-    requires few { length stands.now ≤ 1025 }
-    requires coded { Coded stands.now }
-    requires inside { All (λ l. l < 2 * length stands.now) all.old }
-    ensures is { all.new ≡ map (replace stands.now) all.old }
-    ensures still_inside { All (λ l. l < 2 * length stands.now) all.new }
-{
-    for place in all.iter_mut() {
-        *place = replacement(stands, usize::from(*place)) as u16;
+impl Stands<'_> {
+    /// What a variable stands for: itself, where it is beyond the row.
+    #[tactic(auto, unfolding(rules::specs::Pairs::stands))]
+    fn of_variable(&self, variable: usize) -> usize
+        requires { 2 * variable ≤ usize.MAX }
+        ensures { result ≡ Rattle.rules.specs.Pairs.stands self.now.row.now variable }
+    {
+        match self.row.get(variable) {
+            Some(&literal) => usize::from(literal),
+            None => 2 * variable,
+        }
+    }
+
+    /// What a literal is replaced by.
+    #[tactic(auto, unfolding(rules::specs::Pairs::replace))]
+    pub fn replacement(&self, literal: usize) -> usize
+        ensures { result ≡ replace self.now.row.now literal }
+    {
+        let standing = self.of_variable(var(literal));
+        if is_negative(literal) {
+            opposite(standing)
+        } else {
+            standing
+        }
+    }
+
+    /// Makes the two literals of a clause stand for opposites.
+    #[tactic(auto, using(crate::proofs::StandSteps::two_sides, crate::proofs::StandSteps::replace_coded), unfolding(rules::specs::Pairs::join))]
+    pub fn join(&mut self, clause: &[i32])
+        requires two { length clause.now ≡ 2 }
+        requires inside { All (λ e. var (literal e) < length self.old.row.now) clause.now }
+        ensures { self.new.row.now ≡ join self.old.row.now (map literal clause.now) }
+    {
+        let first = self.replacement(literal(clause[0]));
+        let second = self.replacement(literal(clause[1]));
+        meet(self.row, first, opposite(second));
+    }
+
+    /// Takes each variable one round further: what it stood for is replaced by what that stands for.
+    #[tactic(auto, using(crate::proofs::StandSteps::follow_turns, crate::proofs::StandSteps::replace_fits))]
+    pub fn follow(&self, all: &mut [u16])
+        requires { All (λ l. l < 2 * length self.now.row.now) all.old }
+        ensures is { all.new ≡ map (replace self.now.row.now) all.old }
+        ensures still_inside { All (λ l. l < 2 * length self.now.row.now) all.new }
+    {
+        for place in all.iter_mut() {
+            *place = self.replacement(usize::from(*place)) as u16;
+        }
     }
 }

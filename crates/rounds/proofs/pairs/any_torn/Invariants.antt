@@ -8,4 +8,4 @@ use Rattle.rounds.proofs.pairs.any_torn.Given as goal
 
 abbrev pub invariant-loop-place : goal.invariant-loop-place
 invariant-loop-place l =
-    (list_any (torn l.stands) (pairs (clauses l.row)) ≡ list_any (torn l.stands) (kept l.row l.start l.place)) × (l.start ≤ l.place)
+    (list_any (torn l.stands.row.now) (pairs (clauses l.row)) ≡ list_any (torn l.stands.row.now) (kept l.row l.start l.place)) × (l.start ≤ l.place)

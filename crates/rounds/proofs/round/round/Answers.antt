@@ -7,6 +7,7 @@ use Rattle.rules.specs.Rounds.{pinned}
 use Rattle.settling.proofs.Round.{s}
 use Rattle.rounds.specs.Substitute.{Live}
 use Rattle.rounds.specs.Pairs.{found}
+use Rattle.rounds.proofs.StandSteps.{starting_size, leaders_size}
 use Rattle.rounds.proofs.RoundSteps.{all_inside, row_inside, row_live, round_ends, round_stuck, ends_by, kept_are, leaders_are, front_ended}
 use Rattle.rounds.proofs.round.round.Goals as goal
 
@@ -21,27 +22,30 @@ join_pairs-requires-clause-inside c =
     let cs = pinned row c.args.pins.now in
     let kept = take c.clean-kept.result c.clean-kept.new.row in
     let are = kept_are c.args.n c.args.all.now row c.args.pins.now c.requires.good c.contradicts.new.marks c.contradicts.ensures.forced (clauses kept) c.clean-kept.ensures.cleaned in
-    let size = c.start.auto.stands in let whole = c.requires.stands in
+    let size = starting_size c.start-stands.result.row.now c.contradicts.new.marks (length c.args.stands.now) (omega (arith, c.requires.stands)) c.start-stands.ensures.is in let whole = c.requires.stands in
     λ k d h. let w = row_inside c.args.n c.args.all.now cs c.requires.good kept are c.clean-kept.ensures.ended k d h in omega (arith, w, size, whole)
 
-pub follow-requires-clause-inside : goal.follow-requires-clause-inside
-follow-requires-clause-inside c =
+pub follow-requires : goal.follow-requires
+follow-requires c =
+    let size = leaders_size c.start-stands.result.row.now c.join_pairs.new.stands.row.now c.contradicts.new.marks (pairs (clauses (take c.clean-kept.result c.clean-kept.new.row))) (length c.args.stands.now) (omega (arith, c.requires.stands)) c.start-stands.ensures.is c.join_pairs.ensures.leaders in
     let cs = pinned (take c.args.entries c.args.row.now) c.args.pins.now in
-    λ k d h. let w = all_inside c.args.n c.args.all.now cs c.requires.good k d h in omega (arith, w, c.join_pairs.auto.stands, c.start.auto.stands, c.requires.stands)
+    λ k d h. let w = all_inside c.args.n c.args.all.now cs c.requires.good k d h in omega (arith, w, size, c.requires.stands)
 
-pub follow-requires-in-Joined-clause-inside : goal.follow-requires-in-Joined-clause-inside
-follow-requires-in-Joined-clause-inside c =
+pub follow-requires-in-Joined : goal.follow-requires-in-Joined
+follow-requires-in-Joined c =
+    let size = leaders_size c.start-stands.result.row.now c.join_pairs.new.stands.row.now c.contradicts.new.marks (pairs (clauses (take c.clean-kept.result c.clean-kept.new.row))) (length c.args.stands.now) (omega (arith, c.requires.stands)) c.start-stands.ensures.is c.join_pairs.ensures.leaders in
     let cs = pinned (take c.args.entries c.args.row.now) c.args.pins.now in
-    λ k d h. let w = all_inside c.args.n c.args.all.now cs c.requires.good k d h in omega (arith, w, c.join_pairs.auto.stands, c.start.auto.stands, c.requires.stands)
+    λ k d h. let w = all_inside c.args.n c.args.all.now cs c.requires.good k d h in omega (arith, w, size, c.requires.stands)
 
 pub substitute-requires-clause-inside : goal.substitute-requires-clause-inside
 substitute-requires-clause-inside c =
+    let size = leaders_size c.start-stands.result.row.now c.join_pairs.new.stands.row.now c.contradicts.new.marks (pairs (clauses (take c.clean-kept.result c.clean-kept.new.row))) (length c.args.stands.now) (omega (arith, c.requires.stands)) c.start-stands.ensures.is c.join_pairs.ensures.leaders in
     let row = take c.args.entries c.args.row.now in
     let cs = pinned row c.args.pins.now in
     let kept = take c.clean-kept.result c.clean-kept.new.row in
     let are = kept_are c.args.n c.args.all.now row c.args.pins.now c.requires.good c.contradicts.new.marks c.contradicts.ensures.forced (clauses kept) c.clean-kept.ensures.cleaned in
     λ k d h. let w = row_inside c.args.n c.args.all.now cs c.requires.good kept are c.clean-kept.ensures.ended k d h in
-    omega (arith, w, c.join_pairs.auto.stands, c.start.auto.stands, c.requires.stands)
+    omega (arith, w, size, c.requires.stands)
 
 pub substitute-requires-clause-live : goal.substitute-requires-clause-live
 substitute-requires-clause-live c =
@@ -51,7 +55,7 @@ substitute-requires-clause-live c =
     let are = kept_are c.args.n c.args.all.now row c.args.pins.now c.requires.good c.contradicts.new.marks c.contradicts.ensures.forced (clauses kept) c.clean-kept.ensures.cleaned in
     let lead =
     leaders_are c.args.n c.args.all.now row c.args.pins.now c.requires.good c.contradicts.new.marks c.contradicts.ensures.forced (clauses kept) c.clean-kept.ensures.cleaned
-    c.start.new.stands c.join_pairs.new.stands (length c.args.stands.now) c.requires.stands c.start.ensures.is c.join_pairs.ensures.leaders in
+    c.start-stands.result.row.now c.join_pairs.new.stands.row.now (length c.args.stands.now) c.requires.stands c.start-stands.ensures.is c.join_pairs.ensures.leaders in
     subst (λ t. All (Live t) kept) (sym lead) (row_live c.args.n c.args.all.now cs c.requires.good kept are c.clean-kept.ensures.ended)
 
 pub returns-in-Torn-clause-is : goal.returns-in-Torn-clause-is
@@ -62,7 +66,7 @@ returns-in-Torn-clause-is c =
     let are = kept_are c.args.n c.args.all.now row c.args.pins.now c.requires.good c.contradicts.new.marks c.contradicts.ensures.forced (clauses kept) c.clean-kept.ensures.cleaned in
     let lead =
     leaders_are c.args.n c.args.all.now row c.args.pins.now c.requires.good c.contradicts.new.marks c.contradicts.ensures.forced (clauses kept) c.clean-kept.ensures.cleaned
-    c.start.new.stands c.join_pairs.new.stands (length c.args.stands.now) c.requires.stands c.start.ensures.is c.join_pairs.ensures.leaders in
+    c.start-stands.result.row.now c.join_pairs.new.stands.row.now (length c.args.stands.now) c.requires.stands c.start-stands.ensures.is c.join_pairs.ensures.leaders in
     let calm = sym c.contradicts.ensures.is ∙ c.if-contradicts.false in
     let seen = sym c.in-Torn.is ∙ c.join_pairs.ensures.found ∙ ap (λ t. found t (pairs (clauses kept))) lead ∙ ap (λ o. found (s c.args.n c.args.all.now cs) (pairs o)) are in
     let ends = round_ends c.args.n c.args.all.now cs calm ∙ ap (ends_by c.args.n c.args.all.now cs) (sym seen) in
@@ -76,7 +80,7 @@ returns-in-NoPair-clause-is c =
     let are = kept_are c.args.n c.args.all.now row c.args.pins.now c.requires.good c.contradicts.new.marks c.contradicts.ensures.forced (clauses kept) c.clean-kept.ensures.cleaned in
     let lead =
     leaders_are c.args.n c.args.all.now row c.args.pins.now c.requires.good c.contradicts.new.marks c.contradicts.ensures.forced (clauses kept) c.clean-kept.ensures.cleaned
-    c.start.new.stands c.join_pairs.new.stands (length c.args.stands.now) c.requires.stands c.start.ensures.is c.join_pairs.ensures.leaders in
+    c.start-stands.result.row.now c.join_pairs.new.stands.row.now (length c.args.stands.now) c.requires.stands c.start-stands.ensures.is c.join_pairs.ensures.leaders in
     let calm = sym c.contradicts.ensures.is ∙ c.if-contradicts.false in
     let seen = sym c.in-NoPair.is ∙ c.join_pairs.ensures.found ∙ ap (λ t. found t (pairs (clauses kept))) lead ∙ ap (λ o. found (s c.args.n c.args.all.now cs) (pairs o)) are in
     let ends = round_ends c.args.n c.args.all.now cs calm ∙ ap (ends_by c.args.n c.args.all.now cs) (sym seen) in
@@ -91,7 +95,7 @@ returns-in-Joined-clause-is c =
     let are = kept_are c.args.n c.args.all.now row c.args.pins.now c.requires.good c.contradicts.new.marks c.contradicts.ensures.forced (clauses kept) c.clean-kept.ensures.cleaned in
     let lead =
     leaders_are c.args.n c.args.all.now row c.args.pins.now c.requires.good c.contradicts.new.marks c.contradicts.ensures.forced (clauses kept) c.clean-kept.ensures.cleaned
-    c.start.new.stands c.join_pairs.new.stands (length c.args.stands.now) c.requires.stands c.start.ensures.is c.join_pairs.ensures.leaders in
+    c.start-stands.result.row.now c.join_pairs.new.stands.row.now (length c.args.stands.now) c.requires.stands c.start-stands.ensures.is c.join_pairs.ensures.leaders in
     let calm = sym c.contradicts.ensures.is ∙ c.if-contradicts.false in
     let seen = sym c.in-Joined.is ∙ c.join_pairs.ensures.found ∙ ap (λ t. found t (pairs (clauses kept))) lead ∙ ap (λ o. found (s c.args.n c.args.all.now cs) (pairs o)) are in
     let ends = round_ends c.args.n c.args.all.now cs calm ∙ ap (ends_by c.args.n c.args.all.now cs) (sym seen) in

@@ -5,4 +5,4 @@ use Rattle.rounds.proofs.stands.relabel.Given as goal
 
 abbrev pub invariant-loop-place : goal.invariant-loop-place
 invariant-loop-place l =
-    map (give_way l.low l.high) l.initial.stands ≡ take l.place-index l.stands ++ map (give_way l.low l.high) (drop l.place-index l.stands)
+    map (give_way l.low l.high) l.initial.row ≡ take l.place-index l.row ++ map (give_way l.low l.high) (drop l.place-index l.row)

@@ -6,6 +6,6 @@ use Rattle.rounds.proofs.substitute.substitute_each.Given as goal
 
 abbrev pub invariant-loop-place : goal.invariant-loop-place
 invariant-loop-place l = record {
-  turned : map (substituted l.stands) l.initial.row ≡ take l.place-index l.row ++ map (substituted l.stands) (drop l.place-index l.row);
-  inside : (k : ℕ) → l.place-index ≤ k → k < length l.row → var (literal (get_or l.row k (pos 0))) < length l.stands;
+  turned : map (substituted l.stands.row.now) l.initial.row ≡ take l.place-index l.row ++ map (substituted l.stands.row.now) (drop l.place-index l.row);
+  inside : (k : ℕ) → l.place-index ≤ k → k < length l.row → var (literal (get_or l.row k (pos 0))) < length l.stands.row.now;
 }
