@@ -71,21 +71,20 @@ unfolding key
 key_below [] = omega arith
 key_below (l ∷ c) = omega arith
 
--- A clause's key read back entry by entry.
-unfoldable pub key_from : ℕ → List ℤ → ℕ
-key_from i c = key (map literal (drop i c))
+-- The key of some entries before those of a key, read back from the last one on.
+unfoldable pub key_before : ℕ → List ℤ → ℕ
+key_before k [] = k
+key_before k (z ∷ zs) = (31 * key_before k zs + var (literal z)) % 1024
 
-pub key_end : (c : List ℤ) → key_from (length c) c ≡ 0
-unfolding key_from key
-key_end c = rw (drop_all (length c) c (omega arith)) refl
+pub key_start : (zs : List ℤ) → key (map literal zs) ≡ key_before 0 zs
+unfolding key key_before
+key_start [] = refl
+key_start (z ∷ zs) = ap (λ n. (31 * n + var (literal z)) % 1024) (key_start zs)
 
-pub key_start : (c : List ℤ) (i : ℕ) → i ≡ 0 → key_from i c ≡ key (map literal c)
-unfolding key_from
-key_start c i e = rw (e) refl
-
-pub key_back : (c : List ℤ) (i : ℕ) → i < length c → key_from i c ≡ (31 * key_from (i + 1) c + var (literal (get_or c i (pos 0)))) % 1024
-unfolding key_from
-key_back c i h = rw (drop_more c i (pos 0) h) (key_cons _ _)
+pub key_back : (k : ℕ) (zs : List ℤ) (z : ℤ) → key_before k (zs ++ (z ∷ [])) ≡ key_before ((31 * k + var (literal z)) % 1024) zs
+unfolding key_before
+key_back k [] z = refl
+key_back k (x ∷ zs) z = ap (λ n. (31 * n + var (literal x)) % 1024) (key_back k zs z)
 
 -- Reading the row back: from its end on.
 pub heads_start : (row : List ℤ) (heads : List ℕ) → length heads ≡ 1024 → ((k : ℕ) → k < 1024 → get_or heads k 0 ≡ length row) → Heads row (length row) 0 heads

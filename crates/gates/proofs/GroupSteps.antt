@@ -1,6 +1,5 @@
 -- Clauses of one parity group, literal by literal.
-use Rattle.std.proofs.Common.{◌≡◌, ◌∙◌, refl, sym, ap, subst, ℕ, ◌+◌, ◌*◌, ◌<◌, ◌≤◌, Bool, true, false, cond, not, ◌&&◌, ◌||◌, List, [], ◌∷◌, ◌++◌, map, drop, length, get_or, eqb, ℤ, pos, ⊎_elim, rules, arith, ne_eqb}
-use Rattle.std.proofs.lemmas.List.{drop_more, drop_all}
+use Rattle.std.proofs.Common.{◌≡◌, ◌∙◌, refl, sym, ap, subst, ℕ, ◌+◌, ◌*◌, Bool, true, false, cond, not, ◌&&◌, ◌||◌, List, [], ◌∷◌, ◌++◌, map, length, eqb, ℤ, ⊎_elim, rules, arith, ne_eqb}
 use Rattle.std.proofs.lemmas.List.Folds.{list_any-append}
 use Rattle.std.proofs.Math.Bool.{xor, beq, or-false, and-true, and-false}
 use Rattle.ways.specs.Ways.{same, among, oddly}
@@ -114,30 +113,22 @@ module _ (d c : List ℤ) where
   pub alike_longer : (length d ≡ length c → ⊥) → among (map literal d) (group (map literal c)) ≡ false
   alike_longer h = alike_begins ∙ longer d c h false
 
-  module _ (i : ℕ) (b : Bool) where
-    pub alike_ends : length d ≤ i → length d ≡ length c → alike b (map literal (drop i d)) (map literal (drop i c)) ≡ not b
-    unfolding alike
-    alike_ends h e = let k : length c ≤ i = omega arith in rw (drop_all i d h, drop_all i c k) refl
+-- One literal more of each: of another variable, or with the same sign or the other; and the end of both.
+module _ (b : Bool) (l x : ℤ) (d c : List ℤ) where
+  pub alike_apart : eqb (var (literal l)) (var (literal x)) ≡ false → alike b (map literal (l ∷ d)) (map literal (x ∷ c)) ≡ false
+  unfolding alike
+  alike_apart q = rw (q) refl
 
-    module _ (h : i < length d) (e : length d ≡ length c) where
-      next : alike b (map literal (drop i d)) (map literal (drop i c))
-          ≡ (eqb (var (literal (get_or d i (pos 0)))) (var (literal (get_or c i (pos 0))))
-          && alike (xor b (not (eqb (literal (get_or d i (pos 0))) (literal (get_or c i (pos 0)))))) (map literal (drop (i + 1) d)) (map literal (drop (i + 1) c)))
-      unfolding alike
-      next = let k : i < length c = omega arith in ap (λ xs. alike b (map literal xs) (map literal (drop i c))) (drop_more d i (pos 0) h) ∙ ap (λ ys. alike b (literal (get_or d i (pos 0)) ∷ map literal (drop (i + 1) d)) (map literal ys)) (drop_more c i (pos 0) k)
+  pub alike_on : eqb (var (literal l)) (var (literal x)) ≡ true → alike b (map literal (l ∷ d)) (map literal (x ∷ c)) ≡ alike (not (beq b (not (eqb (literal l) (literal x))))) (map literal d) (map literal c)
+  unfolding alike xor
+  alike_on q = rw (q) (ap (λ o. alike o (map literal d) (map literal c)) (flip b (not (eqb (literal l) (literal x)))))
+    where
+      flip : (b r : Bool) → xor b r ≡ not (beq b r)
+      flip true true = refl
+      flip true false = refl
+      flip false true = refl
+      flip false false = refl
 
-      pub alike_apart : eqb (var (literal (get_or d i (pos 0)))) (var (literal (get_or c i (pos 0)))) ≡ false
-          → alike b (map literal (drop i d)) (map literal (drop i c)) ≡ false
-      alike_apart q = next ∙ rw (q) refl
-
-      pub alike_on : (r : Bool) → r ≡ not (eqb (literal (get_or d i (pos 0))) (literal (get_or c i (pos 0))))
-          → eqb (var (literal (get_or d i (pos 0)))) (var (literal (get_or c i (pos 0)))) ≡ true
-          → alike b (map literal (drop i d)) (map literal (drop i c)) ≡ alike (not (beq b r)) (map literal (drop (i + 1) d)) (map literal (drop (i + 1) c))
-      unfolding xor
-      alike_on r f q = next ∙ rw (q) (ap (λ x. alike x (map literal (drop (i + 1) d)) (map literal (drop (i + 1) c))) (ap (xor b) (sym f) ∙ flip b r))
-        where
-          flip : (b r : Bool) → xor b r ≡ not (beq b r)
-          flip true true = refl
-          flip true false = refl
-          flip false true = refl
-          flip false false = refl
+pub alike_ends : (b : Bool) → alike b [] [] ≡ not b
+unfolding alike
+alike_ends b = refl

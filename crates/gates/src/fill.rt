@@ -64,8 +64,8 @@ fn show_each(stands: &[u16], ended: &[u8], values: &mut [u8])
     requires { length values.old ≤ 1024 }
     ensures { values.new ≡ map (shown stands.now ended.now) (range_with_len 1 (length values.old)) }
 {
-    for place in 0..values.len() {
-        values[place] = shown(stands, ended, place + 1);
+    for (place, value) in values.iter_mut().enumerate() {
+        *value = shown(stands, ended, place + 1);
     }
 }
 

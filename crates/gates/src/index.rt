@@ -28,14 +28,14 @@ fn key_with(key: usize, variable: usize) -> usize
 }
 
 /// The clause's key.
-#[tactic(auto, using(crate::proofs::Chains::key_start, crate::proofs::Chains::key_end, crate::proofs::Chains::key_back))]
+#[tactic(auto, using(crate::proofs::Chains::key_start, crate::proofs::Chains::key_back), unfolding(crate::proofs::Chains::key_before))]
 pub fn key(clause: &[i32]) -> usize
     ensures is { result ≡ key (map literal clause.now) }
     ensures within { result < 1024 }
 {
     let mut key = 0;
-    for place in (0..clause.len()).rev() {
-        key = key_with(key, var(literal(clause[place])));
+    for &entry in clause.iter().rev() {
+        key = key_with(key, var(literal(entry)));
     }
     key
 }
@@ -75,6 +75,7 @@ pub fn build(row: &[i32], heads: &mut [u16], links: &mut [u16])
 {
     heads.fill(row.len() as u16);
     let mut key = 0;
+    // By index: the place is what is written, and an iterator over the row would do only for reading.
     for place in (0..row.len()).rev() {
         key = read_back(row, place, key, heads);
         links[place] = heads[key];

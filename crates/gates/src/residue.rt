@@ -1,5 +1,5 @@
 // Whether a clause is in the pattern of a gate taken. What is in none is the residue.
-ghost use Rattle.std.specs.Prelude.{◌≡◌, ◌≢◌, ◌&&◌, ◌∷◌, [], ◌<◌, map, not, eqb, length, get_or, pos};
+ghost use Rattle.std.specs.Prelude.{◌≡◌, ◌≢◌, ◌&&◌, ◌∷◌, [], map, not, eqb};
 ghost use Rattle.std.specs.List.{All, list_any};
 ghost use Rattle.ways.specs.Ways.{among, same};
 ghost use Rattle.tables.specs.Literal.{literal, var};
@@ -49,24 +49,6 @@ fn is_partner(clause: &[i32], anchor: &[i32], output: usize) -> bool
         .any(|x| x != output && is_side(clause, output, x))
 }
 
-/// Whether two clauses are of one variable at a place.
-fn agree_at(clause: &[i32], anchor: &[i32], place: usize) -> bool
-    requires there { place < length clause.now }
-    requires long { length clause.now ≡ length anchor.now }
-    ensures { result ≡ eqb (var (literal (get_or clause.now place (pos 0)))) (var (literal (get_or anchor.now place (pos 0)))) }
-{
-    var(literal(clause[place])) == var(literal(anchor[place]))
-}
-
-/// Whether two clauses are not of one literal at a place.
-fn differ_at(clause: &[i32], anchor: &[i32], place: usize) -> bool
-    requires there { place < length clause.now }
-    requires long { length clause.now ≡ length anchor.now }
-    ensures { result ≡ not (eqb (literal (get_or clause.now place (pos 0))) (literal (get_or anchor.now place (pos 0)))) }
-{
-    literal(clause[place]) != literal(anchor[place])
-}
-
 /// Whether the clause is of the anchor's parity group: over the same variables, an even number of them with the other sign.
 #[tactic(auto, using(crate::proofs::GroupSteps::alike_begins, crate::proofs::GroupSteps::alike_apart, crate::proofs::GroupSteps::alike_on, crate::proofs::GroupSteps::alike_ends, crate::proofs::GroupSteps::alike_longer))]
 fn is_alike(clause: &[i32], anchor: &[i32]) -> bool
@@ -76,11 +58,12 @@ fn is_alike(clause: &[i32], anchor: &[i32]) -> bool
         return false;
     }
     let mut odd = false;
-    for place in 0..clause.len() {
-        if !agree_at(clause, anchor, place) {
+    for (&entry, &other) in clause.iter().zip(anchor) {
+        let (entry, other) = (literal(entry), literal(other));
+        if var(entry) != var(other) {
             return false;
         }
-        odd = odd != differ_at(clause, anchor, place);
+        odd = odd != (entry != other);
     }
     !odd
 }

@@ -81,6 +81,7 @@ pub fn clean(row: &mut [i32], len: usize, marks: &[u8]) -> usize
 {
     let mut kept = 0;
     let mut start = 0;
+    // By index: the row is written while it is read.
     for end in 0..len {
         if row[end] == 0 {
             kept = clean_clause(row, kept, start, end, marks);

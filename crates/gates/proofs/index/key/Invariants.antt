@@ -1,7 +1,11 @@
--- The clause is read back to the place.
-use Rattle.std.proofs.Common.{◌≡◌, ◌<◌}
-use Rattle.gates.proofs.Chains.{key_from}
+-- The entries that are still to be read stand before those of the key.
+use Rattle.std.proofs.Common.{◌≡◌, ◌<◌, map}
+use Rattle.std.specs.Slice.Iter.{iter_rest}
+use Rattle.std.specs.Iterator.Adapters.{rev_source}
+use Rattle.tables.specs.Literal.{literal}
+use Rattle.gates.specs.Index.{key}
+use Rattle.gates.proofs.Chains.{key_before}
 use Rattle.gates.proofs.index.key.Given as goal
 
-abbrev pub invariant-loop-place : goal.invariant-loop-place
-invariant-loop-place l = (l.key ≡ key_from l.place l.clause) × (l.key < 1024)
+abbrev pub invariant-loop-entry : goal.invariant-loop-entry
+invariant-loop-entry l = (key (map literal l.clause) ≡ key_before l.key (iter_rest (rev_source l.entry-iterator))) × (l.key < 1024)
