@@ -88,6 +88,7 @@ impl<'a> Stands<'a> {
         for (variable, place) in row.iter_mut().enumerate() {
             *place = alone(marks, variable) as u16;
         }
+        // No variable is 0.
         row[0] = 0;
         Stands { row }
     }
