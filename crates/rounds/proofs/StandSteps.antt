@@ -32,12 +32,6 @@ pub follow_turns : (r s : List ℕ) (i : ℕ) → i < length s
 follow_turns r = map_turns (replace r) 0
 
 -- The row at first: the places before i are written.
-pub start_begins : (m s : List ℕ) → 1 ≤ length s
-    → starting (length s - 1) m ≡ take 1 (set s 0 0) ++ map (alone m) (range_with_len 1 (length s - 1))
-unfolding starting
-start_begins m [] h = absurd (omega arith)
-start_begins m (x ∷ s) h = refl
-
 pub start_turns : (m s : List ℕ) (i n : ℕ) → i < n → n ≡ length s
     → take i s ++ map (alone m) (range_with_len i (n - i))
     ≡ take (i + 1) (set s i (alone m i)) ++ map (alone m) (range_with_len (i + 1) (n - (i + 1)))
@@ -46,11 +40,20 @@ start_turns m s i n h k =
     let lt : i < length s = omega arith in
     rw (take_more_set s i (alone m i) lt, e, append_assoc) refl
 
-pub start_ends : (m s : List ℕ) (i n : ℕ) → n ≤ i → n ≡ length s → take i s ++ map (alone m) (range_with_len i (n - i)) ≡ s
-start_ends m s i n h k =
+start_rest : (m s : List ℕ) (i n : ℕ) → n ≤ i → n ≡ length s → take i s ++ map (alone m) (range_with_len i (n - i)) ≡ s
+start_rest m s i n h k =
     let e : n - i ≡ 0 = omega arith in
     let le : length s ≤ i = omega arith in
     rw (e, take_all i s le, append-nil) refl
+
+-- Place 0 is no variable's.
+pub start_ends : (m s : List ℕ) (i n : ℕ) → 1 ≤ n → n ≤ i → n ≡ length s
+    → map (alone m) (range_with_len 0 n) ≡ take i s ++ map (alone m) (range_with_len i (n - i)) → set s 0 0 ≡ starting (n - 1) m
+unfolding starting
+start_ends m s i zero g h k e = absurd (omega arith)
+start_ends m s i (suc n) g h k e =
+    let less : suc n - 1 ≡ n = omega arith in
+    rw less (sym (ap (λ r. set r 0 0) (e ∙ start_rest m s i (suc n) h k)))
 
 -- Codes within the row.
 stands_coded : (s : List ℕ) (v : ℕ) → v < length s → Coded s → stands s v < 2 * length s

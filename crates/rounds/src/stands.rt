@@ -78,17 +78,18 @@ fn meet(row: &mut [u16], a: usize, b: usize)
 
 impl<'a> Stands<'a> {
     /// Each variable at first: a forced one stands for its value, any other for itself.
-    #[tactic(auto, using(crate::proofs::StandSteps::start_begins, crate::proofs::StandSteps::start_ends))]
+    #[tactic(auto, using(crate::proofs::StandSteps::start_ends))]
     pub fn start(row: &'a mut [u16], marks: &[u8]) -> Stands<'a>
         requires some { 1 ≤ length row.old }
         requires few { length row.old ≤ 1025 }
         ensures is { result.row.now ≡ starting (length row.old - 1) marks.now }
         ensures same_row { result.row.ghost_name ≡ row.entry.ghost_name }
     {
-        row[0] = 0;
-        for variable in 1..row.len() {
-            row[variable] = alone(marks, variable) as u16;
+        for (variable, place) in row.iter_mut().enumerate() {
+            *place = alone(marks, variable) as u16;
         }
+        // No variable is 0.
+        row[0] = 0;
         Stands { row }
     }
 }
