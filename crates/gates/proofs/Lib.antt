@@ -1,30 +1,6 @@
--- Laws of the gates' code.
-pub mod Chains
-pub mod Groups
-pub mod Left
-pub mod Masks
-pub mod Ones
-pub mod Same
-pub mod Scans
-pub mod Sides
-pub mod Whole
+-- Lemmas of gates that stand in a row.
 pub mod SiteLaws
 pub mod OutputLaws
-pub mod LevelSteps
-pub mod PlaceSteps
-pub mod Placed
-pub mod SameEntries
-pub mod PatternParts
-pub mod GroupSteps
-pub mod Room
-pub mod AskSteps
 pub mod Counts
-pub mod FillSteps
-pub mod Filled
 pub mod KindTable
 pub mod SiteGates
-pub mod TakeSteps
-pub mod GroupTaken
-pub mod AskPlaces
-pub mod FormTaken
-pub mod AnchorTurn

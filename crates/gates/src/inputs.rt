@@ -9,20 +9,7 @@ ghost use Rattle.gates.specs.Counting.{counts};
 use crate::kinds::{CG, DG};
 use crate::site::Site;
 use tables::literal::{is_negative, literal, opposite, var};
-
-/// Whether a variable is true where each has its value: 1 for true, the first for variable 1.
-pub fn is_set(values: &[u8], variable: usize) -> bool
-    ensures { result ≡ valued values.now variable }
-{
-    variable > 0 && variable <= values.len() && values[variable - 1] == 1
-}
-
-/// Whether a literal is true where each variable has its value.
-pub fn is_true(values: &[u8], literal: usize) -> bool
-    ensures { result ≡ holds (valued values.now) literal }
-{
-    is_set(values, var(literal)) != is_negative(literal)
-}
+use tables::values::is_set;
 
 /// Whether an input of that value counts as true: that of cg or dg as a literal, any other by its variable.
 pub fn is_counted(kind: u8, input: usize, value: bool) -> bool

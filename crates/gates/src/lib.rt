@@ -1,23 +1,9 @@
-// Gates in code: their patterns found in the settled table, taken without rings, and what they leave.
+// A gate in code: where it stands in the settled table, its kind, inputs, output and rule of value.
 #![tactic(auto)]
 
-pub mod anchor;
-pub mod andform;
-pub mod ask;
-pub mod depends;
-pub mod fill;
-pub mod forms;
-pub mod index;
 pub mod inputs;
 pub mod kinds;
-pub mod levels;
-pub mod offer;
 pub mod outputs;
-pub mod parity;
-pub mod partners;
-pub mod place;
-pub mod places;
-pub mod residue;
-pub mod signs;
 pub mod site;
+pub mod taken;
 pub mod value;

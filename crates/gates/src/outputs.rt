@@ -10,8 +10,8 @@ ghost use Rattle.rules.specs.Circuit.{free};
 ghost use Rattle.gates.specs.Sites.{gates_of};
 ghost use Rattle.gates.specs.Outputs.{with_outputs};
 
-use crate::depends::{is_marked, mark};
 use crate::site::Site;
+use rules::marks::{is_marked, mark};
 use tables::literal::var;
 
 /// Whether a site has its output at the variable.

@@ -10,7 +10,6 @@ pub mod PinSteps
 pub mod Insert
 pub mod Parts
 pub mod Tidying
-pub mod Sameness
 pub mod Open
 pub mod Endings
 pub mod Voids

@@ -10,8 +10,8 @@ ghost use Rattle.rounds.specs.Neighbours.{opposed_from};
 ghost use Rattle.rounds.specs.Ended.{Ended};
 
 use crate::earlier::is_among;
-use crate::marks::is_marked;
 use crate::tidy::tidy;
+use rules::marks::is_marked;
 use tables::literal::{literal, opposite};
 
 /// Whether a literal of the clause is forced.

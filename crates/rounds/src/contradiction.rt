@@ -6,7 +6,7 @@ ghost use Rattle.rules.specs.Forced.{clash, contradicts, empty, forced};
 ghost use Rattle.rules.specs.Rounds.{pinned};
 
 use crate::force::force;
-use crate::marks::is_marked;
+use rules::marks::is_marked;
 
 /// Whether the row has an empty clause.
 #[tactic(auto, using(crate::proofs::Empties::empty_first, crate::proofs::Empties::empty_here, crate::proofs::Empties::empty_later, crate::proofs::Empties::empty_on, crate::proofs::Empties::none_empty))]

@@ -1,15 +1,10 @@
 // Whether a clause stands among those that were kept before it.
 ghost use Rattle.std.specs.Prelude.{◌≡◌, map};
-ghost use Rattle.ways.specs.Ways.{same, among};
+ghost use Rattle.ways.specs.Ways.{among};
 ghost use Rattle.tables.specs.Literal.{literal};
 ghost use Rattle.tables.specs.Clause.{clauses};
 
-/// Whether two clauses are the same, literal by literal.
-fn is_same(clause: &[i32], other: &[i32]) -> bool
-    ensures { result ≡ same (map literal clause.now) (map literal other.now) }
-{
-    clause == other
-}
+use tables::clause::is_same;
 
 /// Whether the clause, which has no ending zero here, is one of the row.
 pub fn is_among(clause: &[i32], row: &[i32]) -> bool

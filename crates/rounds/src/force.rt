@@ -8,7 +8,7 @@ ghost use Rattle.tables.specs.Clause.{clauses};
 ghost use Rattle.rules.specs.Forced.{marked, forces, force_at, force_in, pass};
 ghost use Rattle.rules.specs.Rounds.{pinned};
 
-use crate::marks::{is_marked, mark};
+use rules::marks::{is_marked, mark};
 use tables::clause::is_void;
 use tables::literal::{literal, opposite};
 

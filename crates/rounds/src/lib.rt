@@ -5,7 +5,6 @@ pub mod clean;
 pub mod contradiction;
 pub mod earlier;
 pub mod force;
-pub mod marks;
 pub mod pair_chains;
 pub mod pairs;
 pub mod round;

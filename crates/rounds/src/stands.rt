@@ -5,7 +5,8 @@ ghost use Rattle.tables.specs.Literal.{literal, var};
 ghost use Rattle.rules.specs.Pairs.{replace, starting, alone, give_way, meet, join};
 ghost use Rattle.rounds.specs.Pairs.{Coded};
 
-use crate::marks::is_marked;
+use rules::marks::is_marked;
+use rules::standing::stands_for;
 use tables::literal::{is_negative, literal, opposite, var};
 
 /// What each variable stands for: a row with a literal of one of the row's variables, or 0 or 1, for each variable.
@@ -95,24 +96,12 @@ impl<'a> Stands<'a> {
 }
 
 impl Stands<'_> {
-    /// What a variable stands for: itself, where it is beyond the row.
-    #[tactic(auto, unfolding(rules::specs::Pairs::stands))]
-    fn of_variable(&self, variable: usize) -> usize
-        requires { 2 * variable ≤ usize.MAX }
-        ensures { result ≡ Rattle.rules.specs.Pairs.stands self.now.row.now variable }
-    {
-        match self.row.get(variable) {
-            Some(&literal) => usize::from(literal),
-            None => 2 * variable,
-        }
-    }
-
     /// What a literal is replaced by.
     #[tactic(auto, unfolding(rules::specs::Pairs::replace))]
     pub fn replacement(&self, literal: usize) -> usize
         ensures { result ≡ replace self.now.row.now literal }
     {
-        let standing = self.of_variable(var(literal));
+        let standing = stands_for(self.row, var(literal));
         if is_negative(literal) {
             opposite(standing)
         } else {

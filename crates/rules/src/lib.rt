@@ -3,3 +3,5 @@
 
 pub mod book;
 pub mod built;
+pub mod marks;
+pub mod standing;

@@ -4,4 +4,5 @@ pub mod Clauses
 pub mod Checked
 pub mod LookUps
 pub mod Few
+pub mod SameEntries
 pub mod Verdicts

@@ -1,10 +1,18 @@
 // Tests of one clause, lent as its own stretch of a table without the ending zero.
 ghost use Rattle.std.specs.Prelude.{◌≡◌, ◌≤◌, map, length};
-ghost use Rattle.ways.specs.Ways.{has};
+ghost use Rattle.ways.specs.Ways.{has, same};
 ghost use Rattle.tables.specs.Literal.{literal, valued};
 ghost use Rattle.tables.specs.Clause.{void, width, satisfies};
 
-use crate::literal::{is_negative, literal, opposite, var};
+use crate::literal::{literal, opposite};
+use crate::values::is_true;
+
+/// Whether two clauses are the same, literal by literal.
+pub fn is_same(clause: &[i32], other: &[i32]) -> bool
+    ensures { result ≡ same (map literal clause.now) (map literal other.now) }
+{
+    clause == other
+}
 
 /// Whether the clause has a literal.
 pub fn has_literal(clause: &[i32], wanted: usize) -> bool
@@ -41,15 +49,6 @@ pub fn width(clause: &[i32]) -> usize
     width
 }
 
-/// Whether a literal is true where each variable has its value: 1 for true, the first for variable 1.
-fn is_true(literal: usize, values: &[u8]) -> bool
-    ensures { result ≡ Rattle.tables.specs.Literal.holds (valued values.now) literal }
-{
-    let v = var(literal);
-    let value = v > 0 && v <= values.len() && values[v - 1] == 1;
-    value != is_negative(literal)
-}
-
 /// Whether the clause is satisfied where each variable has its value.
 pub fn is_satisfied(clause: &[i32], values: &[u8]) -> bool
     ensures { result ≡ satisfies (valued values.now) (map literal clause.now) }
@@ -57,5 +56,5 @@ pub fn is_satisfied(clause: &[i32], values: &[u8]) -> bool
     clause
         .iter()
         .map(|&entry| literal(entry))
-        .any(|l| is_true(l, values))
+        .any(|l| is_true(values, l))
 }

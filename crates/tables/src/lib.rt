@@ -7,3 +7,4 @@ pub mod literal;
 pub mod lookup;
 pub mod numbers;
 pub mod sizes;
+pub mod values;

@@ -1,0 +1,8 @@
+-- Lemmas of residue, levels, filling in and asking.
+pub mod LevelSteps
+pub mod PatternParts
+pub mod GroupSteps
+pub mod AskSteps
+pub mod FillSteps
+pub mod Filled
+pub mod AskPlaces

@@ -1,0 +1,5 @@
+-- What the code over the gates taken has of its own.
+pub mod Asking
+pub mod Filling
+pub mod Places
+pub mod Alike

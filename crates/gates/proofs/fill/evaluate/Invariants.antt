@@ -1,8 +1,0 @@
--- The gates from here on are still to be evaluated.
-use Rattle.std.proofs.Common.{◌≡◌, drop}
-use Rattle.rules.specs.Fill.{fill_gates}
-use Rattle.gates.specs.Sites.{gates_of}
-use Rattle.gates.proofs.fill.evaluate.Given as goal
-
-abbrev pub invariant-loop-site : goal.invariant-loop-site
-invariant-loop-site l = fill_gates (gates_of l.row l.sites) l.initial.values ≡ fill_gates (gates_of l.row (drop l.site-index l.sites)) l.values

@@ -1,6 +1,0 @@
--- The gates before this one are placed.
-use Rattle.gates.specs.Places.{IsPlacedTo}
-use Rattle.gates.proofs.places.place_all.Given as goal
-
-abbrev pub invariant-loop-place : goal.invariant-loop-place
-invariant-loop-place l = IsPlacedTo l.sites l.place l.places

@@ -1,0 +1,10 @@
+-- Lemmas of the search for patterns.
+pub mod Chains
+pub mod Groups
+pub mod Left
+pub mod Masks
+pub mod Ones
+pub mod Same
+pub mod Scans
+pub mod Sides
+pub mod Whole

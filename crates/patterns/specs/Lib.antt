@@ -1,0 +1,3 @@
+-- What the search for patterns has of its own.
+pub mod Index
+pub mod Seen

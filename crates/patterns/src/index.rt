@@ -1,0 +1,96 @@
+// An index of a row's clauses by a key of their variables: chains through the row, from each key's first clause on.
+ghost use Rattle.std.specs.Prelude.{◌≡◌, ◌+◌, ◌*◌, ◌%◌, ◌<◌, ◌≤◌, [], ◌∷◌, map, length, MatchOption};
+ghost use Rattle.tables.specs.Literal.{literal, var};
+ghost use Rattle.tables.specs.Clause.{clauses};
+ghost use Rattle.patterns.specs.Index.{Heads, Indexed, behind, first_part, key};
+
+use tables::literal::{literal, var};
+
+/// How many keys there are.
+const KEYS: usize = 1024;
+
+/// The index of a row. The row's length stands for no place.
+#[derive(Clone, Copy)]
+pub struct Index<'a> {
+    /// For each key where its first clause starts.
+    pub heads: &'a [u16],
+    /// For each place where the next clause of the same key starts as that of the one which starts there.
+    pub links: &'a [u16],
+}
+
+/// The key of a clause that has one variable more before those of this key.
+fn key_with(key: usize, variable: usize) -> usize
+    requires { key < 1024 }
+    ensures is { result ≡ (31 * key + variable) % 1024 }
+    ensures within { result < 1024 }
+{
+    (31 * key + variable % KEYS) % KEYS
+}
+
+/// The clause's key.
+#[tactic(auto, using(crate::proofs::Chains::key_start, crate::proofs::Chains::key_back), unfolding(crate::proofs::Chains::key_before))]
+pub fn key(clause: &[i32]) -> usize
+    ensures is { result ≡ key (map literal clause.now) }
+    ensures within { result < 1024 }
+{
+    let mut key = 0;
+    for &entry in clause.iter().rev() {
+        key = key_with(key, var(literal(entry)));
+    }
+    key
+}
+
+/// The key of a clause of two literals.
+#[tactic(auto, unfolding(crate::specs::Index::key))]
+pub fn key_of_two(x: usize, y: usize) -> usize
+    ensures is { result ≡ key (x ∷ y ∷ []) }
+    ensures within { result < 1024 }
+{
+    key_with(key_with(0, var(y)), var(x))
+}
+
+/// The key at a place, from that behind it: a zero ends the clause that starts behind it.
+fn read_back(row: &[i32], place: usize, key: usize, heads: &mut [u16]) -> usize
+    requires inside { place < length row.now }
+    requires short { length row.now ≤ 16384 }
+    requires small { key < 1024 }
+    requires heads { Heads row.now (place + 1) key heads.old }
+    ensures heads { Heads row.now place result heads.new }
+    ensures within { result < 1024 }
+{
+    if row[place] == 0 {
+        heads[key] = (place + 1) as u16;
+        0
+    } else {
+        key_with(key, var(literal(row[place])))
+    }
+}
+
+/// Builds the index of the row.
+pub fn build(row: &[i32], heads: &mut [u16], links: &mut [u16])
+    requires short { length row.now ≤ 16384 }
+    requires keys { length heads.old ≡ 1024 }
+    requires room { length row.now ≤ length links.old }
+    ensures { Indexed row.now heads.new links.new }
+{
+    heads.fill(row.len() as u16);
+    let mut key = 0;
+    // By index: the place is what is written, and an iterator over the row would do only for reading.
+    for place in (0..row.len()).rev() {
+        key = read_back(row, place, key, heads);
+        links[place] = heads[key];
+    }
+    heads[key] = 0;
+}
+
+/// The row's first clause, without its ending zero.
+pub fn first_clause(row: &[i32]) -> Option<&[i32]>
+    ensures { MatchOption result (clauses row.now ≡ []) (λ c. (map literal c.now ≡ first_part row.now) × (clauses row.now ≡ first_part row.now ∷ clauses (behind row.now))) }
+{
+    for (place, &entry) in row.iter().enumerate() {
+        if entry == 0 {
+            return Some(&row[..place]);
+        }
+    }
+    None
+}

@@ -1,0 +1,3 @@
+-- What the taking of gates has of its own.
+pub mod Placing
+pub mod Offered

@@ -1,0 +1,8 @@
+// Taking gates in code: of the patterns found, the first that is allowed, and its place among the gates taken.
+#![tactic(auto)]
+
+pub mod anchor;
+pub mod depends;
+pub mod forms;
+pub mod offer;
+pub mod place;
