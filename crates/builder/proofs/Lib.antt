@@ -1,0 +1,3 @@
+-- Lemmas of the calls.
+pub mod Evenings
+pub mod BadValues

@@ -1,0 +1,3 @@
+-- What the calls have of their own.
+pub mod Evenings
+pub mod Values

@@ -1,0 +1,5 @@
+// The calls of the builder over a table and a book: build, fill, ask.
+#![tactic(auto)]
+
+pub mod evening;
+pub mod values;
