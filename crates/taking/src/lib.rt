@@ -6,3 +6,4 @@ pub mod depends;
 pub mod forms;
 pub mod offer;
 pub mod place;
+pub mod take;
