@@ -15,23 +15,6 @@ use Rattle.rules.specs.Pins.{in_force, out_of_range, with_pin}
 use Rattle.rules.specs.declared.book.Book.{Book}
 use Rattle.calls.proofs.Openings.{opening, opening_refuses, opening_passes, opened}
 use Rattle.rules.specs.Calls.{work_short, contradiction, pin_verdict, pin}
-use Rattle.rounds.specs.Rounds.{Settles}
-use Rattle.rounds.specs.declared.settle.Settled.{Settled}
-
--- What the rounds answer is 4 or nothing, as the outcome says.
-pub trial_accepted : (o : Outcome) (s : Settled) (all : List ℕ) (row : List ℤ) → Settles o (Ok s) all row → Ok tt ≡ contradiction o
-unfolding contradiction
-trial_accepted (impossible r) s all row h = never s (Contradiction r) (sym h)
-trial_accepted (settled r st cs) s all row h = refl
-
-pub trial_refused : (o : Outcome) (why : Refusal) (all : List ℕ) (row : List ℤ) → Settles o (Err why) all row → Err why ≡ contradiction o
-unfolding contradiction
-trial_refused (impossible r) why all row h = let again : Refusal → Verdict = λ y. Err y in ap again (ap (cause why) h)
-  where
-    cause : Refusal → Result Settled Refusal → Refusal
-    cause why (Ok s) = why
-    cause why (Err r) = r
-trial_refused (settled r st cs) why all row h = absurd h
 
 -- A pin's tests, one after another.
 module _ (n : ℕ) (t : List ℤ) (b : Book) (room : ℕ) (x : ℤ) where

@@ -11,7 +11,7 @@ use calls::opening::{is_out_of_range, open};
 use rounds::settle::settle;
 use rules::book::Book;
 use tables::numbers::Refusal;
-use tables::sizes::MOST_PINS;
+use tables::sizes::{MOST_PINS, MOST_VARIABLES};
 
 /// The book with one pin more, in the first place past its length.
 #[tactic(auto, using(crate::proofs::PinSteps::in_force_with), unfolding(rules::specs::Pins::with_pin))]
@@ -27,7 +27,7 @@ fn booked(book: Book, entry: i32) -> Book
 }
 
 /// Whether the table can be settled with these pins.
-#[tactic(auto, using(crate::proofs::PinSteps::trial_accepted, crate::proofs::PinSteps::trial_refused))]
+#[tactic(auto, using(rounds::proofs::Outcomes::accepted_verdict, rounds::proofs::Outcomes::refused_verdict))]
 fn trial(n: usize, table: &[i32], pins: &[i32], work: &mut [i32]) -> Result<(), Refusal>
     requires few { n ≤ 1024 }
     requires table { checked n table.now ≡ Ok tt }
@@ -35,7 +35,7 @@ fn trial(n: usize, table: &[i32], pins: &[i32], work: &mut [i32]) -> Result<(), 
     requires room { 16384 ≤ length work.old }
     ensures { result ≡ contradiction (outcome n (pinned table.now pins.now)) }
 {
-    let mut all = [0u16; 1025];
+    let mut all = [0; MOST_VARIABLES + 1];
     let (all, _) = all.split_at_mut(n + 1);
     settle(n, table, pins, work, all)?;
     Ok(())

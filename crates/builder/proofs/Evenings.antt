@@ -1,22 +1,29 @@
 -- Laws of an evening: what the theorems about the rounds say of one.
-use Rattle.std.proofs.Common.{◌≡◌, ◌∙◌, refl, sym, ap, subst, ℕ, suc, ◌+◌, ◌<◌, ◌≤◌, List, length, arith, ℤ}
+use Rattle.std.proofs.Common.{◌≡◌, ◌∙◌, refl, sym, ap, subst, ℕ, suc, ◌+◌, ◌<◌, ◌≤◌, List, length, arith, ℤ, true, not}
+use Rattle.std.specs.Prelude.{Ok}
 use mathlib.Core.List.{Memᴰ}
-use Rattle.tables.specs.Clause.{clauses}
-use Rattle.tables.proofs.Checked.{Inside}
-use Rattle.rules.specs.Rounds.{Outcome, impossible, settled, outcome}
+use Rattle.std.specs.List.{list_all}
+use Rattle.tables.specs.Check.{checked}
+use Rattle.rules.specs.Pins.{out_of_range}
+use Rattle.rules.specs.Rounds.{Outcome, impossible, settled, outcome, pinned}
+use Rattle.settling.proofs.Inside.{pinned_inside}
 use Rattle.settling.proofs.Bound.{Settled, Ends, outcome_ends}
-use Rattle.builder.specs.Evenings.{IsEvening}
-use Rattle.builder.specs.declared.evening.Evening.{Evening}
+use Rattle.taking.specs.Settled.{IsSettled}
 
-module _ (n : ℕ) (cs : List (List ℕ)) (inside : Inside n cs) (e : Evening) (is : IsEvening n (outcome n cs) e) where
-  ends : Ends n 1 (n + 1) (settled e.rounds e.stands.now (clauses e.taken.row.now))
-  ends = subst (Ends n 1 (n + 1)) is.comes (outcome_ends n cs inside)
+-- The table that the rounds leave of one that the check accepts, with pins in range.
+module _ (n : ℕ) (t pins : List ℤ) (good : checked n t ≡ Ok tt) (in_range : list_all (λ x. not (out_of_range n x)) pins ≡ true) (r : ℕ) (st : List ℕ) (cs : List (List ℕ))
+    (comes : outcome n (pinned t pins) ≡ settled r st cs) where
+  ends : Ends n 1 (n + 1) (settled r st cs)
+  ends = subst (Ends n 1 (n + 1)) comes (outcome_ends n (pinned t pins) (pinned_inside n t pins good in_range))
 
-  pub rounds_low : e.rounds ≤ n + 1
-  rounds_low = let r = ends.1 in omega arith
+  pub rounds_low : r ≤ n + 1
+  rounds_low = let h = ends.1 in omega arith
 
-  pub settled_is : Settled n e.stands.now (clauses e.taken.row.now)
-  settled_is = ends.2
+  pub left_settled : Settled n st cs
+  left_settled = ends.2
 
-  pub stands_long : length e.stands.now ≡ n + 1
-  stands_long = let s = settled_is.good.size in omega (arith, s)
+  pub left_proper : IsSettled n cs
+  left_proper = record { inside = λ c i l k. let (root, low, high) = left_settled.good.over c i l k in (low, high); proper = left_settled.proper }
+
+  pub stands_long : length st ≡ n + 1
+  stands_long = let s = left_settled.good.size in omega (arith, s)

@@ -6,10 +6,11 @@ ghost use Rattle.rules.specs.Rounds.{outcome, pinned};
 ghost use Rattle.rules.specs.Pins.{out_of_range};
 ghost use Rattle.builder.specs.Evenings.{Comes};
 
-use gates::taken::Taken;
 use gates::site::Site;
+use gates::taken::Taken;
 use rounds::settle::settle;
 use tables::numbers::Refusal;
+use taking::take::take_gates;
 
 /// A settled evening.
 #[derive(Clone, Copy)]
@@ -22,4 +23,30 @@ pub struct Evening<'a> {
     pub stands: &'a [u16],
     /// The gates taken from the settled table.
     pub taken: Taken<'a>,
+}
+
+/// Settles a table with its pins in the work buffer, and takes the gates of the settled table.
+pub fn settle_evening<'a>(
+    n: usize,
+    table: &[i32],
+    pins: &[i32],
+    work: &'a mut [i32],
+    stands: &'a mut [u16],
+    sites: &'a mut [Site],
+) -> Result<Evening<'a>, Refusal>
+    requires table { checked n table.now ≡ Ok tt }
+    requires pins { list_all (λ x. not (out_of_range n x)) pins.now ≡ true }
+    requires work { 16384 ≤ length work.old }
+    requires stands { length stands.old ≡ n + 1 }
+    requires sites { n ≤ length sites.old }
+    ensures { Comes n (outcome n (pinned table.now pins.now)) result }
+{
+    let settled = settle(n, table, pins, work, stands)?;
+    let row = work.split_at(settled.entries).0;
+    Ok(Evening {
+        n,
+        rounds: settled.rounds,
+        stands,
+        taken: take_gates(n, row, sites),
+    })
 }

@@ -17,5 +17,6 @@ pub mod CleanSteps
 pub mod Cleaned
 pub mod RoundSteps
 pub mod Whole
+pub mod Outcomes
 pub mod SettleSteps
 pub mod ChainSteps

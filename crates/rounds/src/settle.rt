@@ -1,5 +1,5 @@
 // The rounds over a lent table with the pins behind it, until no pair is found.
-ghost use Rattle.std.specs.Prelude.{◌≡◌, ◌+◌, ◌*◌, ◌≤◌, [], true, not, Ok, length, take};
+ghost use Rattle.std.specs.Prelude.{◌≡◌, ◌+◌, ◌*◌, ◌≤◌, [], true, not, Ok, IfOk, length, take};
 ghost use Rattle.std.specs.List.{list_all};
 ghost use Rattle.tables.specs.Check.{checked};
 ghost use Rattle.rules.specs.Pairs.{starting};
@@ -53,7 +53,9 @@ fn run(
     requires marks { length marks.old ≡ 2 * n + 2 }
     requires stands { length stands.old ≡ n + 1 }
     requires good { Good n all.old (pinned (take entries row.old) pins.now) }
-    ensures { Settles (rounds n (n + 1) 1 all.old (pinned (take entries row.old) pins.now)) result all.new row.new }
+    ensures is { Settles (rounds n (n + 1) 1 all.old (pinned (take entries row.old) pins.now)) result all.new row.new }
+    ensures short { IfOk result (λ s. s.entries ≤ 16384) }
+    ensures within { IfOk result (λ s. s.entries ≤ length row.new) }
 {
     let mut entries = entries;
     let mut pins = pins;
@@ -91,7 +93,9 @@ pub fn settle(
     requires pins { list_all (λ x. not (out_of_range n x)) pins.now ≡ true }
     requires room { 16384 ≤ length row.old }
     requires all { length all.old ≡ n + 1 }
-    ensures { Settles (outcome n (pinned table.now pins.now)) result all.new row.new }
+    ensures is { Settles (outcome n (pinned table.now pins.now)) result all.new row.new }
+    ensures short { IfOk result (λ s. s.entries ≤ 16384) }
+    ensures within { IfOk result (λ s. s.entries ≤ length row.new) }
 {
     begin(n, table, row, all);
     let mut marks = [0u8; 2050];
