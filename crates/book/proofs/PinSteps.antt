@@ -9,7 +9,6 @@ use Rattle.std.specs.Prelude.{Result, Ok, Err}
 use Rattle.tables.specs.declared.numbers.Refusal.{Refusal}
 use Rattle.tables.specs.declared.numbers.Refusal.TheVariants.{Contradiction, OutOfRange, BookFull, ShortWork}
 use Rattle.tables.specs.Numbers.{Verdict, refuse, first_refusal}
-use Rattle.tables.proofs.Verdicts.{never, refuse_accepts}
 use Rattle.rules.specs.Rounds.{Outcome, impossible, settled, outcome, pinned}
 use Rattle.rules.specs.Pins.{in_force, out_of_range, with_pin}
 use Rattle.rules.specs.declared.book.Book.{Book}
@@ -52,8 +51,3 @@ module _ (n : ℕ) (t : List ℤ) (b : Book) (room : ℕ) (x : ℤ) where
 pub in_force_with : (b : Book) (x : ℤ) → length b.pins ≡ 64 → b.held < 64 → in_force (with_pin b x) ≡ in_force b ++ (x ∷ [])
 unfolding in_force with_pin
 in_force_with b x e l = rw (add-one b.held) (take-suc-set b.pins b.held x (omega (arith, e)))
-
--- A work buffer that is not short has its room.
-pub room_of : (room : ℕ) → work_short room ≡ Ok tt → 16384 ≤ room
-unfolding work_short
-room_of room e = ltb-false room 16384 (refuse_accepts (ltb room 16384) ShortWork e)

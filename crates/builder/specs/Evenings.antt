@@ -1,10 +1,13 @@
 -- What an evening is: what the rounds over a table with its pins leave, with the gates taken from it.
-use Rattle.std.specs.Prelude.{ℕ, ◌≡◌, ◌≤◌, List, length, Result, Ok, Err}
+use Rattle.std.specs.Prelude.{ℕ, ◌≡◌, ◌≤◌, List, [], ◌∷◌, ℤ, length, Result, Ok, Err}
 use Rattle.tables.specs.Clause.{clauses}
+use Rattle.tables.specs.Numbers.{Verdict, first_refusal}
 use Rattle.tables.specs.declared.numbers.Refusal.{Refusal}
 use Rattle.rules.specs.Rounds.{Outcome, settled}
 use Rattle.rules.specs.Taking.{taken}
-use Rattle.rules.specs.Calls.{contradiction}
+use Rattle.rules.specs.Pins.{book_long}
+use Rattle.rules.specs.Calls.{work_short, held_bad, contradiction, outcome_of}
+use Rattle.rules.specs.declared.book.Book.{Book}
 use Rattle.rounds.specs.Ended.{Ended}
 use Rattle.gates.specs.Sites.{gates_of}
 use Rattle.builder.specs.declared.evening.Evening.{Evening}
@@ -22,3 +25,12 @@ pub record IsEvening (n : ℕ) (o : Outcome) (e : Evening) : Type 0 where
 abbrev pub Comes : ℕ → Outcome → Result Evening Refusal → Type 0
 Comes n o (Ok e) = IsEvening n o e
 Comes n o (Err why) = contradiction o ≡ Err why
+
+-- What build, fill and ask test behind the table check, up to 4. work: the length of the work buffer.
+abbrev pub tests : ℕ → List ℤ → Book → ℕ → List Verdict
+tests n t b work = work_short work ∷ book_long b ∷ held_bad n b ∷ contradiction (outcome_of n t b) ∷ []
+
+-- They are passed, and there is an evening; or one refuses.
+abbrev pub Begins : ℕ → List ℤ → Book → ℕ → Result Evening Refusal → Type 0
+Begins n t b work (Ok e) = (first_refusal (tests n t b work) ≡ Ok tt) × IsEvening n (outcome_of n t b) e
+Begins n t b work (Err why) = first_refusal (tests n t b work) ≡ Err why

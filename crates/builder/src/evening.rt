@@ -4,11 +4,13 @@ ghost use Rattle.std.specs.List.{list_all};
 ghost use Rattle.tables.specs.Check.{checked};
 ghost use Rattle.rules.specs.Rounds.{outcome, pinned};
 ghost use Rattle.rules.specs.Pins.{out_of_range};
-ghost use Rattle.builder.specs.Evenings.{Comes};
+ghost use Rattle.builder.specs.Evenings.{Comes, Begins};
 
+use calls::opening::open_book;
 use gates::site::Site;
 use gates::taken::Taken;
 use rounds::settle::settle;
+use rules::book::Book;
 use tables::numbers::Refusal;
 use taking::take::take_gates;
 
@@ -49,4 +51,24 @@ pub fn settle_evening<'a>(
         stands,
         taken: take_gates(n, row, sites),
     })
+}
+
+/// What build, fill and ask begin with behind the table check: the tests of the work buffer and the book, and the evening of
+/// the pins in force. The stands and the sites are room for it.
+pub fn begin_evening<'a>(
+    n: usize,
+    table: &[i32],
+    book: &Book,
+    work: &'a mut [i32],
+    stands: &'a mut [u16],
+    sites: &'a mut [Site],
+) -> Result<Evening<'a>, Refusal>
+    requires table { checked n table.now ≡ Ok tt }
+    requires stands { 1025 ≤ length stands.old }
+    requires sites { 1024 ≤ length sites.old }
+    ensures { Begins n table.now book.now (length work.old) result }
+{
+    open_book(n, book, work.len())?;
+    let (stands, _) = stands.split_at_mut(n + 1);
+    settle_evening(n, table, book.in_force(), work, stands, sites)
 }
