@@ -1,14 +1,30 @@
 -- Laws of an evening: what the theorems about the rounds say of one.
-use Rattle.std.proofs.Common.{◌≡◌, ◌∙◌, refl, sym, ap, subst, ℕ, suc, ◌+◌, ◌<◌, ◌≤◌, List, length, arith, ℤ, true, not}
+use Rattle.std.proofs.Common.{◌≡◌, ◌∙◌, refl, sym, ap, subst, ℕ, suc, ◌+◌, ◌*◌, ◌<◌, ◌≤◌, List, length, get_or, arith, ℤ, true, not}
 use Rattle.std.specs.Prelude.{Ok}
 use mathlib.Core.List.{Memᴰ}
-use Rattle.std.specs.List.{list_all}
+use Rattle.std.specs.List.{All, list_all}
+use Rattle.tables.specs.Literal.{literal, var}
+use Rattle.tables.specs.Clause.{clauses}
+use Rattle.tables.proofs.Clauses.{All as EachLiteral}
 use Rattle.tables.specs.Check.{checked}
 use Rattle.rules.specs.Pins.{out_of_range}
 use Rattle.rules.specs.Rounds.{Outcome, impossible, settled, outcome, pinned}
 use Rattle.settling.proofs.Inside.{pinned_inside}
 use Rattle.settling.proofs.Bound.{Settled, Ends, outcome_ends}
+use Rattle.circuits.proofs.Order.{Ordered}
+use Rattle.circuits.proofs.Whole.{are_taken, gates_within}
+use Rattle.rules.specs.Patterns.{Gate}
+use Rattle.rules.specs.Taking.{allowed, taken}
+use Rattle.rounds.specs.Ended.{Ended}
+use Rattle.rounds.proofs.SettleSteps.{few_variables}
+use Rattle.rounds.proofs.SubstituteSteps.{inside_entries}
+use Rattle.rounds.proofs.RoundSteps.{all_inside, ended_last}
 use Rattle.taking.specs.Settled.{IsSettled}
+use Rattle.rules.specs.Calls.{rounds_in, stands_in, gates_in, bad_values}
+use Rattle.gates.specs.TakenGates as Taken
+use Rattle.builder.specs.Evenings.{IsEvening, Sized, Evaluates}
+use Rattle.builder.specs.Values.{bad_in}
+use Rattle.builder.specs.declared.evening.Evening.{Evening}
 
 -- The table that the rounds leave of one that the check accepts, with pins in range.
 module _ (n : ℕ) (t pins : List ℤ) (good : checked n t ≡ Ok tt) (in_range : list_all (λ x. not (out_of_range n x)) pins ≡ true) (r : ℕ) (st : List ℕ) (cs : List (List ℕ))
@@ -27,3 +43,60 @@ module _ (n : ℕ) (t pins : List ℤ) (good : checked n t ≡ Ok tt) (in_range 
 
   pub stands_long : length st ≡ n + 1
   stands_long = let s = left_settled.good.size in omega (arith, s)
+
+  -- Each variable stands for a literal of one of the variables, or for a value.
+  pub stands_inside : All (λ l. var l ≤ n) st
+  stands_inside k d h = under (get_or st k d) (all_inside n st cs left_settled.good k d h)
+    where
+      under : (l : ℕ) → l < 2 * (n + 1) → var l ≤ n
+      under l w = grind arith
+
+  -- The entries of a row that holds the settled table.
+  pub row_inside : (row : List ℤ) → clauses row ≡ cs → Ended row → All (λ x. var (literal x) ≤ n) row
+  row_inside row e ends k d h =
+      let w = inside_entries n row (ended_last row ends) (subst (EachLiteral (λ l. var l ≤ n)) (sym e) (λ c i l j. (left_proper.inside c i l j).1)) k d h in omega arith
+
+  -- The gates taken from it.
+  pub gates_ordered : Ordered (taken n cs)
+  unfolding taken
+  gates_ordered = (are_taken n st cs left_settled (allowed n) (λ gs g e. e)).order
+
+  pub gates_inside : (g : Gate) → Memᴰ g (taken n cs) → (1 ≤ g.output) × (g.output ≤ n)
+  unfolding taken
+  gates_inside = gates_within n st cs left_settled (allowed n) (λ gs g e. e)
+
+-- The evening of a table and pins.
+module _ (n : ℕ) (t pins : List ℤ) (good : checked n t ≡ Ok tt) (in_range : list_all (λ x. not (out_of_range n x)) pins ≡ true) (e : Evening)
+    (is : IsEvening n (outcome n (pinned t pins)) e) where
+  pub sized : Sized e
+  sized =
+      record {
+        few = rw is.variables (few_variables n t good);
+        inside = rw is.variables (row_inside n t pins good in_range _ _ _ is.comes e.taken.row.now refl is.ended);
+        standing = rw is.variables (stands_inside n t pins good in_range _ _ _ is.comes);
+      }
+
+  pub evaluates : Evaluates e
+  evaluates =
+      record {
+        ordered = rw is.gates (gates_ordered n t pins good in_range _ _ _ is.comes);
+        outputs = rw (is.gates, is.variables) (gates_inside n t pins good in_range _ _ _ is.comes);
+      }
+
+-- What the definitions say of an outcome that is an evening.
+module _ (n : ℕ) (o : Outcome) (e : Evening) (is : IsEvening n o e) where
+  pub rounds_are : rounds_in o ≡ e.rounds
+  unfolding rounds_in
+  rounds_are = rw is.comes refl
+
+  pub stands_are : stands_in o ≡ e.stands.now
+  unfolding stands_in
+  stands_are = rw is.comes refl
+
+  pub gates_are : gates_in n o ≡ Taken.gates_in e.taken
+  unfolding gates_in
+  gates_are = rw is.comes (sym is.gates)
+
+  pub bad_are : (given : List ℕ) → bad_values n o given ≡ bad_in e given
+  unfolding bad_values
+  bad_are given = rw (stands_are, gates_are, is.variables) refl

@@ -13,6 +13,7 @@ use Rattle.rules.specs.Calls.{work_short, held_bad, contradiction, outcome_of}
 use Rattle.rules.specs.declared.book.Book.{Book}
 use Rattle.calls.proofs.Openings.{opening, opened, room_of}
 use Rattle.builder.specs.Evenings.{Comes, Begins, tests}
+use Rattle.builder.proofs.Evenings.{sized, evaluates}
 use Rattle.builder.specs.declared.evening.Evening.{Evening}
 
 last : (v : Verdict) → result_and v (Ok (tt {0})) ≡ v
@@ -34,12 +35,6 @@ module _ (n : ℕ) (t : List ℤ) (b : Book) (work : ℕ) where
         tests-append book_tests (contradiction (outcome_of n t b) ∷ []) ∙ ap (λ v. result_and v (first_refusal (contradiction (outcome_of n t b) ∷ []))) passed
         ∙ last (contradiction (outcome_of n t b))
 
-    -- With what the rounds come to.
-    pub comes_begins : (answer : Result Evening Refusal) → Comes n (outcome n (pinned t (in_force b))) answer → Begins n t b work answer
-    unfolding outcome_of contradiction
-    comes_begins (Ok e) is = (tests_decided ∙ ap contradiction is.comes, is)
-    comes_begins (Err why) h = tests_decided ∙ h
-
     module _ (good : checked n t ≡ Ok tt) where
       opening_passed : first_refusal (opening n t b work) ≡ Ok tt
       unfolding first_refusal
@@ -50,6 +45,13 @@ module _ (n : ℕ) (t : List ℤ) (b : Book) (work : ℕ) where
 
       pub pins_fit : list_all (λ x. not (out_of_range n x)) (in_force b) ≡ true
       pins_fit = (opened n t b work opening_passed).pins
+
+      -- With what the rounds come to.
+      pub comes_begins : (answer : Result Evening Refusal) → Comes n (outcome n (pinned t (in_force b))) answer → Begins n t b work answer
+      unfolding outcome_of contradiction
+      comes_begins (Ok e) is =
+          (tests_decided ∙ ap contradiction is.comes, is, sized n t (in_force b) good pins_fit e is, evaluates n t (in_force b) good pins_fit e is)
+      comes_begins (Err why) h = tests_decided ∙ h
 
   -- The whole of a call's tests. more: those behind the evening.
   module _ (more : List Verdict) where

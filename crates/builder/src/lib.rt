@@ -2,4 +2,5 @@
 #![tactic(auto)]
 
 pub mod evening;
+pub mod fill;
 pub mod values;

@@ -4,7 +4,8 @@ ghost use Rattle.rules.specs.Forced.{marked};
 ghost use Rattle.rules.specs.Taking.{is_output};
 ghost use Rattle.rules.specs.Circuit.{free};
 ghost use Rattle.rules.specs.Calls.{bad_value};
-ghost use Rattle.builder.specs.Values.{is_bad, bad_in, gates_in};
+ghost use Rattle.gates.specs.TakenGates.{gates_in};
+ghost use Rattle.builder.specs.Values.{is_bad, bad_in};
 
 use crate::evening::Evening;
 use gates::outputs::{is_free, mark_outputs};
@@ -24,7 +25,7 @@ fn is_no_bit(values: &[u8], place: usize) -> bool
 /// Whether a variable is free and its value is neither 0 nor 1.
 fn is_bad(evening: &Evening, outputs: &[u8], given: &[u8], variable: usize) -> bool
     requires from_one { 1 ≤ variable }
-    requires marked { marked outputs.now variable ≡ is_output (gates_in evening.now) variable }
+    requires marked { marked outputs.now variable ≡ is_output (gates_in evening.now.taken) variable }
     ensures { result ≡ is_bad evening.now given.now variable }
 {
     is_free(evening.stands, outputs, variable) && is_no_bit(given, variable - 1)

@@ -30,5 +30,5 @@ settle_evening-requires-clause-sites c = let few = few_variables c.args.n c.args
 
 pub returns : goal.returns
 returns c =
-    comes_begins c.args.n c.args.table.now c.args.book.now (length c.args.work.now) (sym c.open_book.ensures ∙ c.in_ok-open_book.was) c.settle_evening.result
+    comes_begins c.args.n c.args.table.now c.args.book.now (length c.args.work.now) (sym c.open_book.ensures ∙ c.in_ok-open_book.was) c.requires.table c.settle_evening.result
     (rw c.in_force.ensures at c.settle_evening.ensures)
