@@ -72,6 +72,7 @@ module _ (n : ℕ) (t pins : List ℤ) (good : checked n t ≡ Ok tt) (in_range 
   sized =
       record {
         few = rw is.variables (few_variables n t good);
+        gates = rw is.variables is.few;
         inside = rw is.variables (row_inside n t pins good in_range _ _ _ is.comes e.taken.row.now refl is.ended);
         standing = rw is.variables (stands_inside n t pins good in_range _ _ _ is.comes);
       }

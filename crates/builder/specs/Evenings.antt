@@ -31,9 +31,10 @@ abbrev pub Comes : ℕ → Outcome → Result Evening Refusal → Type 0
 Comes n o (Ok e) = IsEvening n o e
 Comes n o (Err why) = contradiction o ≡ Err why
 
--- Its sizes: few variables, and each entry of the settled table and what each variable stands for of one of them.
+-- Its sizes: few variables, no more gates than these, and each entry of the settled table and what each variable stands for of one of them.
 pub record Sized (e : Evening) : Type 0 where
   pub few : e.n ≤ 1024
+  pub gates : length e.taken.sites.now ≤ e.n
   pub inside : All (λ x. var (literal x) ≤ e.n) e.taken.row.now
   pub standing : All (λ l. var l ≤ e.n) e.stands.now
 

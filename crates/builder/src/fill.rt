@@ -62,3 +62,23 @@ fn filled_in(
     let evening = begin_evening(n, table, book, work, &mut stands, &mut sites)?;
     fill_evening(&evening, given, values)
 }
+
+/// Fills in all variables: each free one has its given value, and what is given for any other is ignored. The work buffer is
+/// all zero afterwards.
+#[tactic(auto, unfolding(rules::specs::Calls::wiped))]
+pub fn fill(
+    n: usize,
+    table: &[i32],
+    book: &Book,
+    work: &mut [i32],
+    given: &[u8],
+    values: &mut [u8],
+) -> Result<(), Refusal>
+    ensures is { result ≡ fill_verdict n table.now book.now (length work.old) given.now (length values.old) }
+    ensures values { values.new ≡ fill_values n table.now book.now (length work.old) given.now values.old }
+    ensures wiped { work.new ≡ wiped work.old }
+{
+    let answer = filled_in(n, table, book, work, given, values);
+    work.fill(0);
+    answer
+}

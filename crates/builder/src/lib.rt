@@ -1,6 +1,7 @@
 // The calls of the builder over a table and a book: build, fill, ask.
 #![tactic(auto)]
 
+pub mod ask;
 pub mod evening;
 pub mod fill;
 pub mod values;
