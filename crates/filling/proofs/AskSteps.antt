@@ -22,10 +22,11 @@ use Rattle.circuits.proofs.Levels.{level_is, level_rises}
 use Rattle.gates.specs.declared.site.Site.{Site}
 use Rattle.filling.specs.declared.ask.Circuit.{Circuit}
 use Rattle.gates.specs.Sites.{Within, entries_of, anchor_of, gate_of}
+use Rattle.gates.specs.TakenGates.{gates_in}
 use Rattle.gates.specs.Inputs.{input, inputs}
 use Rattle.gates.specs.Counting.{counts}
 use Rattle.filling.specs.Places.{IsGateFor}
-use Rattle.filling.specs.Asking.{gates_in, IsCircuit, IsTaken, ended, level, known, recalled, Remembers}
+use Rattle.filling.specs.Asking.{IsCircuit, IsTaken, ended, level, known, recalled, Remembers}
 use Rattle.gates.proofs.SiteGates.{inputs_are}
 use Rattle.filling.proofs.FillSteps.{output_is}
 use Rattle.filling.proofs.Filled.{all_mem}
@@ -81,48 +82,48 @@ module _ (c : Circuit) where
   }
 
   module _ (k : IsCircuit c) where
-    inside : (g : Gate) → Memᴰ g (gates_in c) → g.output ≤ length c.given.now
+    inside : (g : Gate) → Memᴰ g (gates_in c.taken) → g.output ≤ length c.given.now
     inside g i = (k.outputs g i).1
 
     -- A variable that is no output has its given value in the end.
-    pub given_ended : (v : ℕ) → ((s : Site) → Memᴰ s c.sites.now → v ≡ var s.output → ⊥) → valued c.given.now v ≡ ended c v
+    pub given_ended : (v : ℕ) → ((s : Site) → Memᴰ s c.taken.sites.now → v ≡ var s.output → ⊥) → valued c.given.now v ≡ ended c v
     unfolding ended fill_gates
     given_ended v h =
-        sym (fill_other (length c.given.now) (gates_in c) k.outputs c.given.now v
-        (λ g i q. let (s, j, w) = Memᴰ.of_map (gate_of c.row.now) c.sites.now i in h s j (q ∙ ap (λ (f : Gate). f.output) (sym w) ∙ output_is c.row.now s)))
+        sym (fill_other (length c.given.now) (gates_in c.taken) k.outputs c.given.now v
+        (λ g i q. let (s, j, w) = Memᴰ.of_map (gate_of c.taken.row.now) c.taken.sites.now i in h s j (q ∙ ap (λ (f : Gate). f.output) (sym w) ∙ output_is c.taken.row.now s)))
 
     module _ (site : Site) (t : IsTaken c site) where
-      pub site_within : Within c.row.now site
-      site_within = all_mem (Within c.row.now) c.sites.now k.within site t.member
+      pub site_within : Within c.taken.row.now site
+      site_within = all_mem (Within c.taken.row.now) c.taken.sites.now c.taken.within site t.member
 
       -- It gives one of the circuit's gates.
-      member : Memᴰ (gate_of c.row.now site) (gates_in c)
-      member = Memᴰ.map (gate_of c.row.now) t.member
+      member : Memᴰ (gate_of c.taken.row.now site) (gates_in c.taken)
+      member = Memᴰ.map (gate_of c.taken.row.now) t.member
 
-      pub gate_ended : rule (gate_of c.row.now site).kind (ended c) (gate_of c.row.now site).inputs ≡ ended c (var site.output)
+      pub gate_ended : rule (gate_of c.taken.row.now site).kind (ended c) (gate_of c.taken.row.now site).inputs ≡ ended c (var site.output)
       unfolding ended fill_gates
       gate_ended =
-          sym (fill_rules (length c.given.now) k.ordered k.outputs c.given.now (omega arith) (gate_of c.row.now site) member)
-          ∙ ap (valued (fill_gates (gates_in c) c.given.now)) (output_is c.row.now site)
+          sym (fill_rules (length c.given.now) k.ordered k.outputs c.given.now (omega arith) (gate_of c.taken.row.now site) member)
+          ∙ ap (valued (fill_gates (gates_in c.taken) c.given.now)) (output_is c.taken.row.now site)
 
       pub gate_level : 1 ≤ level c (var site.output)
       unfolding level
       gate_level =
-          subst (λ v. 1 ≤ get_or (levels (length c.given.now) (gates_in c)) v 0) (output_is c.row.now site)
-          (omega (arith, level_is (length c.given.now) k.ordered inside (gate_of c.row.now site) member))
+          subst (λ v. 1 ≤ get_or (levels (length c.given.now) (gates_in c.taken)) v 0) (output_is c.taken.row.now site)
+          (omega (arith, level_is (length c.given.now) k.ordered inside (gate_of c.taken.row.now site) member))
 
-      pub input_level : (zs : List ℤ) (i : ℕ) (d : ℤ) → zs ≡ entries_of c.row.now site → i < length zs → (literal (get_or zs i d) ≡ site.output → ⊥)
+      pub input_level : (zs : List ℤ) (i : ℕ) (d : ℤ) → zs ≡ entries_of c.taken.row.now site → i < length zs → (literal (get_or zs i d) ≡ site.output → ⊥)
           → level c (var (input site (literal (get_or zs i d)))) < level c (var site.output)
       unfolding level inputs others
       input_level zs i d e h n =
-          subst (λ v. level c (var (input site (literal (get_or zs i d)))) < get_or (levels (length c.given.now) (gates_in c)) v 0) (output_is c.row.now site)
-          (level_rises (length c.given.now) k.ordered inside (gate_of c.row.now site) member (input site (literal (get_or zs i d)))
-          (subst (Memᴰ (input site (literal (get_or zs i d)))) (sym (inputs_are c.row.now site))
-          (Memᴰ.map (input site) (mem-filter (λ x. not (eqb x site.output)) (anchor_of c.row.now site) (literal (get_or zs i d))
+          subst (λ v. level c (var (input site (literal (get_or zs i d)))) < get_or (levels (length c.given.now) (gates_in c.taken)) v 0) (output_is c.taken.row.now site)
+          (level_rises (length c.given.now) k.ordered inside (gate_of c.taken.row.now site) member (input site (literal (get_or zs i d)))
+          (subst (Memᴰ (input site (literal (get_or zs i d)))) (sym (inputs_are c.taken.row.now site))
+          (Memᴰ.map (input site) (mem-filter (λ x. not (eqb x site.output)) (anchor_of c.taken.row.now site) (literal (get_or zs i d))
           (Memᴰ.map literal (subst (Memᴰ (get_or zs i d)) e (get_or-mem zs i d h))) (ap not (ne_eqb _ _ n))))))
 
       -- Each question goes one level down.
-      pub input_falls : (zs : List ℤ) (i : ℕ) (d : ℤ) (o y v : ℕ) → zs ≡ entries_of c.row.now site → i < length zs → o ≡ literal (get_or zs i d) → (o ≡ site.output → ⊥) → y ≡ input site o → v ≡ var y
+      pub input_falls : (zs : List ℤ) (i : ℕ) (d : ℤ) (o y v : ℕ) → zs ≡ entries_of c.taken.row.now site → i < length zs → o ≡ literal (get_or zs i d) → (o ≡ site.output → ⊥) → y ≡ input site o → v ≡ var y
           → 2 * level c v < 2 * level c (var site.output) - 1
       input_falls zs i d o y v e h q n g w =
           let r : level c v < level c (var site.output) = rw (w, g, q) (input_level zs i d e h (λ z. n (q ∙ z))) in omega arith
@@ -163,8 +164,8 @@ pub nothing_remembered : (c : Circuit) (n : ℕ) → Remembers c (replicate n 0)
 nothing_remembered c n = record { right = λ v h. absurd (h (get_or_same n v 0)) }
 
 -- What is asked for is the value in the end of the literal that the variable stands for.
-pub asked_ended : (c : Circuit) → IsCircuit c → (st : List ℕ) (v : ℕ) → asked st (gates_in c) c.given.now v ≡ holds (ended c) (stands st v)
+pub asked_ended : (c : Circuit) → IsCircuit c → (st : List ℕ) (v : ℕ) → asked st (gates_in c.taken) c.given.now v ≡ holds (ended c) (stands st v)
 unfolding asked ended fill_gates
 asked_ended c k st v =
-    holds_alike (ask_root (length (gates_in c)) (gates_in c) (valued c.given.now)) (ended c) (stands st v)
+    holds_alike (ask_root (length (gates_in c.taken)) (gates_in c.taken) (valued c.given.now)) (ended c) (stands st v)
     (asked_is (length c.given.now) k.ordered k.outputs c.given.now (omega arith) (var (stands st v)))

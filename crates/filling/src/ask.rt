@@ -5,11 +5,13 @@ ghost use Rattle.std.specs.List.{All};
 ghost use Rattle.tables.specs.Literal.{var};
 ghost use Rattle.rules.specs.Ask.{asked};
 ghost use Rattle.filling.specs.Places.{IsPlaced};
-ghost use Rattle.filling.specs.Asking.{gates_in, IsCircuit, IsTaken, Remembers, ended, known, recalled};
+ghost use Rattle.gates.specs.TakenGates.{gates_in};
+ghost use Rattle.filling.specs.Asking.{IsCircuit, IsTaken, Remembers, ended, known, recalled};
 
 use crate::places::{gate_for, place_all};
 use gates::inputs::{input, input_count, is_counted};
 use gates::site::Site;
+use gates::taken::Taken;
 use gates::value::{rule_of, site_kind};
 use rules::standing::stands_for;
 use tables::literal::{is_negative, literal, var};
@@ -22,9 +24,7 @@ const ROOM: usize = MOST_VARIABLES + 1;
 /// Gates in an order of evaluation, and values for the variables that are no outputs.
 #[derive(Clone, Copy)]
 pub struct Circuit<'a> {
-    /// The settled table, where the gates stand.
-    pub row: &'a [i32],
-    pub sites: &'a [Site],
+    pub taken: Taken<'a>,
     pub given: &'a [u8],
 }
 
@@ -51,7 +51,7 @@ fn remember(memo: &mut [u8], variable: usize, value: bool)
 #[cycle(asking)]
 fn variable_value(circuit: &Circuit, places: &[u16], memo: &mut [u8], variable: usize) -> bool
     requires circuit { IsCircuit circuit.now }
-    requires placed { IsPlaced circuit.now.sites.now places.now }
+    requires placed { IsPlaced circuit.now.taken.sites.now places.now }
     requires memo { Remembers circuit.now memo.old }
     ensures is { result ≡ ended circuit.now variable }
     ensures memo { Remembers circuit.now memo.new }
@@ -59,7 +59,7 @@ fn variable_value(circuit: &Circuit, places: &[u16], memo: &mut [u8], variable: 
     if let Some(value) = recall(memo, variable) {
         return value;
     }
-    let value = match gate_for(circuit.sites, places, variable) {
+    let value = match gate_for(circuit.taken.sites, places, variable) {
         Some(site) => gate_value(circuit, places, memo, site),
         None => is_set(circuit.given, variable),
     };
@@ -72,14 +72,14 @@ fn variable_value(circuit: &Circuit, places: &[u16], memo: &mut [u8], variable: 
 fn gate_value(circuit: &Circuit, places: &[u16], memo: &mut [u8], site: Site) -> bool
     requires circuit { IsCircuit circuit.now }
     requires site { IsTaken circuit.now site }
-    requires placed { IsPlaced circuit.now.sites.now places.now }
+    requires placed { IsPlaced circuit.now.taken.sites.now places.now }
     requires memo { Remembers circuit.now memo.old }
     ensures is { result ≡ ended circuit.now (var site.output) }
     ensures memo { Remembers circuit.now memo.new }
 {
-    let kind = site_kind(circuit.row, site);
+    let kind = site_kind(circuit.taken.row, site);
     let mut trues = 0;
-    for &entry in site.anchor(circuit.row) {
+    for &entry in site.anchor(circuit.taken.row) {
         let other = literal(entry);
         if other != site.output {
             let input = input(site, other);
@@ -87,7 +87,7 @@ fn gate_value(circuit: &Circuit, places: &[u16], memo: &mut [u8], site: Site) ->
             trues += usize::from(is_counted(kind, input, value));
         }
     }
-    rule_of(kind, trues, input_count(circuit.row, site))
+    rule_of(kind, trues, input_count(circuit.taken.row, site))
 }
 
 /// A variable's value, from values for the free ones: that of the literal that it stands for.
@@ -95,12 +95,12 @@ fn gate_value(circuit: &Circuit, places: &[u16], memo: &mut [u8], site: Site) ->
 pub fn ask(circuit: &Circuit, stands: &[u16], variable: usize) -> bool
     requires circuit { IsCircuit circuit.now }
     requires few { variable ≤ 1024 }
-    requires few_gates { length circuit.now.sites.now < 2 ^ 16 }
-    requires outputs { All (λ site. var site.output ≤ 1024) circuit.now.sites.now }
-    ensures { result ≡ asked stands.now (gates_in circuit.now) circuit.now.given.now variable }
+    requires few_gates { length circuit.now.taken.sites.now < 2 ^ 16 }
+    requires outputs { All (λ site. var site.output ≤ 1024) circuit.now.taken.sites.now }
+    ensures { result ≡ asked stands.now (gates_in circuit.now.taken) circuit.now.given.now variable }
 {
     let mut places = [0; ROOM];
-    place_all(circuit.sites, &mut places);
+    place_all(circuit.taken.sites, &mut places);
     let mut memo = [0; ROOM];
     let literal = stands_for(stands, variable);
     variable_value(circuit, &places, &mut memo, var(literal)) != is_negative(literal)

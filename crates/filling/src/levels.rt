@@ -1,12 +1,14 @@
 // The levels of the gates taken: a gate's is one more than its inputs' highest, and that of any other variable is 0.
 ghost use Rattle.std.specs.Prelude.{◌≡◌, ◌-◌, ◌+◌, ◌<◌, ◌≤◌, ◌^◌, map, max, length, get_or, set};
-ghost use Rattle.std.specs.List.{All, fold};
+ghost use Rattle.std.specs.List.{fold};
 ghost use Rattle.tables.specs.Literal.{literal, var};
 ghost use Rattle.rules.specs.Patterns.{others};
 ghost use Rattle.rules.specs.Circuit.{highest, level_step};
-ghost use Rattle.gates.specs.Sites.{Within, gate_of, gates_of};
+ghost use Rattle.gates.specs.Sites.{Within, gate_of};
+ghost use Rattle.gates.specs.TakenGates.{gates_in};
 
 use gates::site::Site;
+use gates::taken::Taken;
 use tables::literal::{literal, var};
 
 /// The level of a variable: 0 beyond the row.
@@ -59,14 +61,13 @@ fn level_step(row: &[i32], site: Site, levels: &mut [u16])
 
 /// The levels by variable, gate after gate.
 #[tactic(auto, using(crate::proofs::LevelSteps::levels_none, crate::proofs::LevelSteps::levels_more, crate::proofs::LevelSteps::levels_low))]
-pub fn levels(row: &[i32], sites: &[Site], levels: &mut [u16])
-    requires within { All (Within row.now) sites.now }
-    requires few { length sites.now ≤ 1024 }
+pub fn levels(taken: &Taken, levels: &mut [u16])
+    requires few { length taken.now.sites.now ≤ 1024 }
     requires some { 1 ≤ length levels.old }
-    ensures { levels.new ≡ Rattle.rules.specs.Circuit.levels (length levels.old - 1) (gates_of row.now sites.now) }
+    ensures { levels.new ≡ Rattle.rules.specs.Circuit.levels (length levels.old - 1) (gates_in taken.now) }
 {
     levels.fill(0);
-    for &site in sites {
-        level_step(row, site, levels);
+    for &site in taken.sites {
+        level_step(taken.row, site, levels);
     }
 }

@@ -1,13 +1,15 @@
 // Whether a clause is in the pattern of a gate taken. What is in none is the residue.
 ghost use Rattle.std.specs.Prelude.{◌≡◌, ◌≢◌, ◌&&◌, ◌∷◌, [], map, not, eqb};
-ghost use Rattle.std.specs.List.{All, list_any};
+ghost use Rattle.std.specs.List.{list_any};
 ghost use Rattle.ways.specs.Ways.{among, same};
 ghost use Rattle.tables.specs.Literal.{literal, var};
 ghost use Rattle.rules.specs.Patterns.{group, side};
 ghost use Rattle.rules.specs.Circuit.{in_pattern};
-ghost use Rattle.gates.specs.Sites.{Within, gate_of, gates_of};
+ghost use Rattle.gates.specs.Sites.{Within, gate_of};
+ghost use Rattle.gates.specs.TakenGates.{gates_in};
 
 use gates::site::Site;
+use gates::taken::Taken;
 use tables::clause::is_same;
 use tables::literal::{literal, opposite, var};
 
@@ -78,12 +80,11 @@ fn is_in(row: &[i32], site: Site, clause: &[i32]) -> bool
 
 /// Whether the clause is in the pattern of one of the gates.
 #[tactic(auto, unfolding(rules::specs::Circuit::in_pattern))]
-pub fn in_pattern(row: &[i32], sites: &[Site], clause: &[i32]) -> bool
-    requires { All (Within row.now) sites.now }
-    ensures { result ≡ in_pattern (gates_of row.now sites.now) (map literal clause.now) }
+pub fn in_pattern(taken: &Taken, clause: &[i32]) -> bool
+    ensures { result ≡ in_pattern (gates_in taken.now) (map literal clause.now) }
 {
-    for &site in sites {
-        if is_in(row, site, clause) {
+    for &site in taken.sites {
+        if is_in(taken.row, site, clause) {
             return true;
         }
     }

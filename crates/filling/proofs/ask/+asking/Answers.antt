@@ -19,7 +19,7 @@ gate_value-input_count-requires t c = site_within c.args.circuit.now c.requires.
 pub gate_value-loop-entry-init : goal.gate_value-loop-entry-init
 gate_value-loop-entry-init t c = record {
   memo = c.requires.memo;
-  counted = all_counted _ c.args.circuit.now.row.now c.args.site _ c.anchor-entry-items.ensures;
+  counted = all_counted _ c.args.circuit.now.taken.row.now c.args.site _ c.anchor-entry-items.ensures;
   low = omega arith;
 }
 
@@ -91,14 +91,14 @@ gate_value-loop-entry-preserved t c =
 pub gate_value-returns-clause-is : goal.gate_value-returns-clause-is
 gate_value-returns-clause-is t c =
     c.rule_of.ensures
-    ∙ value_counted c.args.circuit.now.row.now c.args.site (ended c.args.circuit.now) _ _ _ c.site_kind-kind.ensures.is c.site_kind-kind.ensures.within
-    (none_counted _ c.args.circuit.now.row.now c.args.site c.anchor-entry-items.result.now _ c.loop-entry.entry-index c.loop-entry-test.false c.loop-entry.invariant.counted)
+    ∙ value_counted c.args.circuit.now.taken.row.now c.args.site (ended c.args.circuit.now) _ _ _ c.site_kind-kind.ensures.is c.site_kind-kind.ensures.within
+    (none_counted _ c.args.circuit.now.taken.row.now c.args.site c.anchor-entry-items.result.now _ c.loop-entry.entry-index c.loop-entry-test.false c.loop-entry.invariant.counted)
     c.input_count.ensures
     ∙ gate_ended c.args.circuit.now c.requires.circuit c.args.site c.requires.site
 
 pub variable_value-gate_value-value-requires : goal.variable_value-gate_value-value-requires
 variable_value-gate_value-value-requires t c =
-    let (member, at) = found c.args.circuit.now.sites.now c.args.variable c.gate_for.result c.in-Some-gate_for.site c.gate_for.ensures c.in-Some-gate_for.is in
+    let (member, at) = found c.args.circuit.now.taken.sites.now c.args.variable c.gate_for.result c.in-Some-gate_for.site c.gate_for.ensures c.in-Some-gate_for.is in
     let taken : IsTaken c.args.circuit.now c.in-Some-gate_for.site = record { member = member } in
     let r : 2 * level c.args.circuit.now (var c.in-Some-gate_for.site.output) - 1 < t = omega (arith, gate_level c.args.circuit.now c.requires.circuit c.in-Some-gate_for.site taken, ap (level c.args.circuit.now) at) in
     (r, (c.requires.circuit, (taken, (c.requires.placed, c.requires.memo))))
@@ -108,9 +108,9 @@ variable_value-returns-clause-is t c =
     elim c.match-gate_for.branch [
       | variable_value-in-Some-gate_for w ↦ (
           w.value-is ∙ w.gate_value-value.ensures.is
-          ∙ ap (ended c.args.circuit.now) (found c.args.circuit.now.sites.now c.args.variable c.gate_for.result w.in-Some-gate_for.site c.gate_for.ensures w.in-Some-gate_for.is).1
+          ∙ ap (ended c.args.circuit.now) (found c.args.circuit.now.taken.sites.now c.args.variable c.gate_for.result w.in-Some-gate_for.site c.gate_for.ensures w.in-Some-gate_for.is).1
           )
-      | variable_value-in-None w ↦ w.value-is ∙ w.is_set-value.ensures ∙ given_ended c.args.circuit.now c.requires.circuit c.args.variable (missing c.args.circuit.now.sites.now c.args.variable c.gate_for.result c.gate_for.ensures w.in-None.is)
+      | variable_value-in-None w ↦ w.value-is ∙ w.is_set-value.ensures ∙ given_ended c.args.circuit.now c.requires.circuit c.args.variable (missing c.args.circuit.now.taken.sites.now c.args.variable c.gate_for.result c.gate_for.ensures w.in-None.is)
     ]
 
 pub variable_value-returns-clause-memo : goal.variable_value-returns-clause-memo

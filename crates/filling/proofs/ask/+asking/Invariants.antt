@@ -17,7 +17,7 @@ decreases-variable_value l = 2 * level l.circuit.now l.variable
 abbrev pub invariant-gate_value-loop-entry : goal.invariant-gate_value-loop-entry
 invariant-gate_value-loop-entry l = record {
   memo : Remembers l.circuit l.memo;
-  counted : count_by (counts l.kind (ended l.circuit)) (inputs l.circuit.row.now l.site)
+  counted : count_by (counts l.kind (ended l.circuit)) (inputs l.circuit.taken.row.now l.site)
       ≡ l.trues + count_by (counts l.kind (ended l.circuit)) (inputs_from l.site (drop l.entry-index l.entry-items));
   low : l.trues ≤ l.entry-index;
 }
