@@ -10,5 +10,6 @@ pub mod NumeralSteps
 pub mod HeaderSteps
 pub mod BodySteps
 pub mod RowSteps
+pub mod LaySteps
 pub mod DecimalSteps
 pub mod WriteSteps
