@@ -156,5 +156,6 @@ asked_place n t b work given v x ok buffer room =
     let a = ask_passed n t b work given v verdict in
     let p = passed n t b work given a.table a.held a.clash a.long in
     let full = fill_accepted n t b work given v a (length buffer) room in
-    (full, rw (written n t b work given p buffer full)
-    (sym (asked_is_filled n t (in_force b) _ p.st p.cs p.settles given p.long v a.low a.high) ∙ rw (stands_is n t b work given p, gates_is n t b work given p) at same))
+    let known : asked (stands_in (outcome_of n t b)) (gates_in n (outcome_of n t b)) given v ≡ asked p.st (taken n p.cs) given v =
+    ap (λ s. asked s (gates_in n (outcome_of n t b)) given v) (stands_is n t b work given p) ∙ ap (λ g. asked p.st g given v) (gates_is n t b work given p) in
+    (full, rw (written n t b work given p buffer full) (sym (asked_is_filled n t (in_force b) _ p.st p.cs p.settles given p.long v a.low a.high) ∙ sym known ∙ same))
