@@ -1,4 +1,5 @@
 -- What the taking of gates has of its own.
 pub mod Placing
-pub mod Offered
 pub mod Settled
+pub mod Anchors
+pub mod Offered
