@@ -7,15 +7,18 @@ ghost use Rattle.patterns.specs.Index.{Heads, Indexed, behind, first_part, key};
 use tables::literal::{literal, var};
 
 /// How many keys there are.
-const KEYS: usize = 1024;
+pub const KEYS: usize = 1024;
 
-/// The index of a row. The row's length stands for no place.
+/// A row with the index of its clauses. The row's length stands for no place.
 #[derive(Clone, Copy)]
 pub struct Index<'a> {
+    /// The row.
+    pub row: &'a [i32],
     /// For each key where its first clause starts.
     pub heads: &'a [u16],
     /// For each place where the next clause of the same key starts as that of the one which starts there.
     pub links: &'a [u16],
+    pub ghost indexed: { Indexed row.now heads.now links.now },
 }
 
 /// The key of a clause that has one variable more before those of this key.
@@ -66,8 +69,8 @@ fn read_back(row: &[i32], place: usize, key: usize, heads: &mut [u16]) -> usize
     }
 }
 
-/// Builds the index of the row.
-pub fn build(row: &[i32], heads: &mut [u16], links: &mut [u16])
+/// Writes the row's index.
+fn write(row: &[i32], heads: &mut [u16], links: &mut [u16])
     requires short { length row.now ≤ 16384 }
     requires keys { length heads.old ≡ 1024 }
     requires room { length row.now ≤ length links.old }
@@ -81,6 +84,19 @@ pub fn build(row: &[i32], heads: &mut [u16], links: &mut [u16])
         links[place] = heads[key];
     }
     heads[key] = 0;
+}
+
+impl<'a> Index<'a> {
+    /// The row's index, written into the lent rows of places.
+    pub fn build(row: &'a [i32], heads: &'a mut [u16], links: &'a mut [u16]) -> Index<'a>
+        requires short { length row.now ≤ 16384 }
+        requires keys { length heads.old ≡ 1024 }
+        requires room { length row.now ≤ length links.old }
+        ensures { result.row.now ≡ row.now }
+    {
+        write(row, heads, links);
+        Index { row, heads, links }
+    }
 }
 
 /// The row's first clause, without its ending zero.

@@ -6,7 +6,6 @@ ghost use Rattle.ways.specs.Ways.{among, same};
 ghost use Rattle.tables.specs.Literal.{literal, var};
 ghost use Rattle.tables.specs.Clause.{clauses};
 ghost use Rattle.rules.specs.Patterns.{anchors, first_of, found, group, parity};
-ghost use Rattle.patterns.specs.Index.{Indexed};
 ghost use Rattle.patterns.specs.Seen.{see, seen};
 
 use crate::index::{Index, first_clause, key};
@@ -73,15 +72,14 @@ fn see_first(row: &[i32], anchor: &[i32], seen: u32) -> u32
 }
 
 /// The sign patterns of the anchor's group that the row has: a walk along the chain of the anchor's key.
-fn patterns_seen(row: &[i32], index: Index, anchor: &[i32]) -> u32
+fn patterns_seen(index: &Index, anchor: &[i32]) -> u32
     requires few { length anchor.now ≤ 5 }
-    requires indexed { Indexed row.now index.heads.now index.links.now }
-    ensures { result ≡ seen (clauses row.now) (map literal anchor.now) }
+    ensures { result ≡ seen (clauses index.now.row.now) (map literal anchor.now) }
 {
     let mut seen = 0;
     let mut at = index.heads[key(anchor)] as usize;
-    while at < row.len() {
-        seen = see_first(row.split_at(at).1, anchor, seen);
+    while at < index.row.len() {
+        seen = see_first(index.row.split_at(at).1, anchor, seen);
         at = index.links[at] as usize;
     }
     seen
@@ -89,13 +87,12 @@ fn patterns_seen(row: &[i32], index: Index, anchor: &[i32]) -> u32
 
 /// Whether the row has every clause of the anchor's group.
 #[tactic(auto, using(crate::proofs::Whole::whole_row))]
-fn is_whole(row: &[i32], index: Index, anchor: &[i32]) -> bool
+fn is_whole(index: &Index, anchor: &[i32]) -> bool
     requires some { 0 < length anchor.now }
     requires few { length anchor.now ≤ 5 }
-    requires indexed { Indexed row.now index.heads.now index.links.now }
-    ensures { result ≡ list_all (λ d. among d (clauses row.now)) (group (map literal anchor.now)) }
+    ensures { result ≡ list_all (λ d. among d (clauses index.now.row.now)) (group (map literal anchor.now)) }
 {
-    patterns_seen(row, index, anchor).count_ones() == 1 << (anchor.len() - 1)
+    patterns_seen(index, anchor).count_ones() == 1 << (anchor.len() - 1)
 }
 
 /// Whether the row's first clause is of the anchor's group.
@@ -122,15 +119,14 @@ fn begins_same(row: &[i32], anchor: &[i32]) -> bool
 }
 
 /// Whether the anchor is the first clause of its group in the row: a walk along the chain of its key.
-fn is_first(row: &[i32], index: Index, anchor: &[i32]) -> bool
+fn is_first(index: &Index, anchor: &[i32]) -> bool
     requires some { 0 < length anchor.now }
     requires few { length anchor.now ≤ 5 }
-    requires indexed { Indexed row.now index.heads.now index.links.now }
-    ensures { result ≡ same (first_of (group (map literal anchor.now)) (clauses row.now)) (map literal anchor.now) }
+    ensures { result ≡ same (first_of (group (map literal anchor.now)) (clauses index.now.row.now)) (map literal anchor.now) }
 {
     let mut at = index.heads[key(anchor)] as usize;
-    while at < row.len() {
-        let rest = row.split_at(at).1;
+    while at < index.row.len() {
+        let rest = index.row.split_at(at).1;
         if begins_alike(rest, anchor) {
             return begins_same(rest, anchor);
         }
@@ -141,10 +137,9 @@ fn is_first(row: &[i32], index: Index, anchor: &[i32]) -> bool
 
 /// Whether the anchor is its parity group's first clause and the group is whole.
 #[tactic(auto, unfolding(rules::specs::Patterns::anchors, rules::specs::Patterns::found, rules::specs::Patterns::parity))]
-pub fn parity_found(row: &[i32], index: Index, anchor: &[i32]) -> bool
+pub fn parity_found(index: &Index, anchor: &[i32]) -> bool
     requires some { 0 < length anchor.now }
-    requires indexed { Indexed row.now index.heads.now index.links.now }
-    ensures { (o : ℕ) → result ≡ (anchors (clauses row.now) (map literal anchor.now) && found (clauses row.now) (parity (map literal anchor.now) o)) }
+    ensures { (o : ℕ) → result ≡ (anchors (clauses index.now.row.now) (map literal anchor.now) && found (clauses index.now.row.now) (parity (map literal anchor.now) o)) }
 {
-    anchor.len() < 6 && is_first(row, index, anchor) && is_whole(row, index, anchor)
+    anchor.len() < 6 && is_first(index, anchor) && is_whole(index, anchor)
 }

@@ -14,39 +14,39 @@ pub loop-at-init : goal.loop-at-init
 loop-at-init c =
     let k = c.key.ensures in
     record {
-      left = first_first c.args.row.now c.args.index.heads.now c.args.index.links.now c.requires.indexed c.key.result k.within (map literal c.args.anchor.now) (sym k.is);
-      on = on_first c.args.row.now c.args.index.heads.now c.args.index.links.now c.key.result _ c.requires.indexed k.within k.is;
+      left = first_first c.args.index.now.row.now c.args.index.now.heads.now c.args.index.now.links.now c.args.index.now.indexed c.key.result k.within (map literal c.args.anchor.now) (sym k.is);
+      on = on_first c.args.index.now.row.now c.args.index.now.heads.now c.args.index.now.links.now c.key.result _ c.args.index.now.indexed k.within k.is;
     }
 
 pub loop-at-preserved : goal.loop-at-preserved
 loop-at-preserved c =
     let i = c.loop-at.invariant in
     let a = map literal c.args.anchor.now in
-    let f : list_any (λ d. among d (group a)) (one (drop c.loop-at.at c.args.row.now)) ≡ false =
+    let f : list_any (λ d. among d (group a)) (one (drop c.loop-at.at c.args.index.now.row.now)) ≡ false =
     ap (λ zs. list_any (λ d. among d (group a)) (one zs)) (sym c.split_at.ensures.back) ∙ sym c.begins_alike.ensures ∙ c.if-begins_alike.false in
     record {
-      left = i.left ∙ first_next c.args.row.now c.args.index.heads.now c.args.index.links.now c.requires.indexed (key a) c.loop-at.at c.loop-at-test.true i.on a refl
-          ∙ ap (λ b. cond b (first_of (group a) (one (drop c.loop-at.at c.args.row.now))) (first_of (group a) (clauses (drop (get_or c.args.index.links.now c.loop-at.at 0) c.args.row.now)))) f;
-      on = on_next c.args.row.now c.args.index.heads.now c.args.index.links.now c.requires.indexed (key a) c.loop-at.at c.loop-at-test.true i.on;
+      left = i.left ∙ first_next c.args.index.now.row.now c.args.index.now.heads.now c.args.index.now.links.now c.args.index.now.indexed (key a) c.loop-at.at c.loop-at-test.true i.on a refl
+          ∙ ap (λ b. cond b (first_of (group a) (one (drop c.loop-at.at c.args.index.now.row.now))) (first_of (group a) (clauses (drop (get_or c.args.index.now.links.now c.loop-at.at 0) c.args.index.now.row.now)))) f;
+      on = on_next c.args.index.now.row.now c.args.index.now.heads.now c.args.index.now.links.now c.args.index.now.indexed (key a) c.loop-at.at c.loop-at-test.true i.on;
     }
 
 pub loop-at-smaller : goal.loop-at-smaller
 loop-at-smaller c =
     let i = c.loop-at.invariant in
-    let l = link_later c.args.row.now c.args.index.heads.now c.args.index.links.now c.requires.indexed (key (map literal c.args.anchor.now)) c.loop-at.at c.loop-at-test.true i.on in omega arith
+    let l = link_later c.args.index.now.row.now c.args.index.now.heads.now c.args.index.now.links.now c.args.index.now.indexed (key (map literal c.args.anchor.now)) c.loop-at.at c.loop-at-test.true i.on in omega arith
 
 pub returns-then-begins_alike : goal.returns-then-begins_alike
 returns-then-begins_alike c =
     let i = c.loop-at.invariant in
     let a = map literal c.args.anchor.now in
-    let t : list_any (λ d. among d (group a)) (one (drop c.loop-at.at c.args.row.now)) ≡ true =
+    let t : list_any (λ d. among d (group a)) (one (drop c.loop-at.at c.args.index.now.row.now)) ≡ true =
     ap (λ zs. list_any (λ d. among d (group a)) (one zs)) (sym c.split_at.ensures.back) ∙ sym c.begins_alike.ensures ∙ c.if-begins_alike.true in
-    let e : first_of (group a) (clauses c.args.row.now) ≡ first_of (group a) (one (drop c.loop-at.at c.args.row.now)) =
-    i.left ∙ first_next c.args.row.now c.args.index.heads.now c.args.index.links.now c.requires.indexed (key a) c.loop-at.at c.loop-at-test.true i.on a refl
-    ∙ ap (λ b. cond b (first_of (group a) (one (drop c.loop-at.at c.args.row.now))) (first_of (group a) (clauses (drop (get_or c.args.index.links.now c.loop-at.at 0) c.args.row.now)))) t in
+    let e : first_of (group a) (clauses c.args.index.now.row.now) ≡ first_of (group a) (one (drop c.loop-at.at c.args.index.now.row.now)) =
+    i.left ∙ first_next c.args.index.now.row.now c.args.index.now.heads.now c.args.index.now.links.now c.args.index.now.indexed (key a) c.loop-at.at c.loop-at-test.true i.on a refl
+    ∙ ap (λ b. cond b (first_of (group a) (one (drop c.loop-at.at c.args.index.now.row.now))) (first_of (group a) (clauses (drop (get_or c.args.index.now.links.now c.loop-at.at 0) c.args.index.now.row.now)))) t in
     c.begins_same.ensures ∙ ap (λ zs. same (first_of (group a) (one zs)) a) c.split_at.ensures.back ∙ ap (λ d. same d a) (sym e)
 
 pub returns : goal.returns
 returns c =
     let a = map literal c.args.anchor.now in
-    sym (ap (λ d. same d a) (c.loop-at.invariant.left ∙ ap (first_of (group a)) (none_left c.args.row.now c.loop-at.at c.loop-at-test.false)) ∙ first_of_none (group a) c.args.anchor.now c.requires.some)
+    sym (ap (λ d. same d a) (c.loop-at.invariant.left ∙ ap (first_of (group a)) (none_left c.args.index.now.row.now c.loop-at.at c.loop-at-test.false)) ∙ first_of_none (group a) c.args.anchor.now c.requires.some)

@@ -9,9 +9,9 @@ use Rattle.patterns.proofs.parity.is_first.Given as goal
 
 abbrev pub invariant-loop-at : goal.invariant-loop-at
 invariant-loop-at l = record {
-  left : first_of (group (map literal l.anchor)) (clauses l.row) ≡ first_of (group (map literal l.anchor)) (clauses (drop l.at l.row));
-  on : On l.row (key (map literal l.anchor)) l.at;
+  left : first_of (group (map literal l.anchor)) (clauses l.index.row.now) ≡ first_of (group (map literal l.anchor)) (clauses (drop l.at l.index.row.now));
+  on : On l.index.row.now (key (map literal l.anchor)) l.at;
 }
 
 abbrev pub decreases-loop-at : goal.decreases-loop-at
-decreases-loop-at l = length l.row - l.at
+decreases-loop-at l = length l.index.row.now - l.at

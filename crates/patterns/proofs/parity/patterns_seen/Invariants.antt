@@ -10,9 +10,9 @@ use Rattle.patterns.proofs.parity.patterns_seen.Given as goal
 
 abbrev pub invariant-loop-at : goal.invariant-loop-at
 invariant-loop-at l = record {
-  left : seen (clauses l.row) (map literal l.anchor) ≡ fold (see (map literal l.anchor)) l.seen (clauses (drop l.at l.row));
-  on : On l.row (key (map literal l.anchor)) l.at;
+  left : seen (clauses l.index.row.now) (map literal l.anchor) ≡ fold (see (map literal l.anchor)) l.seen (clauses (drop l.at l.index.row.now));
+  on : On l.index.row.now (key (map literal l.anchor)) l.at;
 }
 
 abbrev pub decreases-loop-at : goal.decreases-loop-at
-decreases-loop-at l = length l.row - l.at
+decreases-loop-at l = length l.index.row.now - l.at

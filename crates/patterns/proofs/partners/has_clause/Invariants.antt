@@ -8,9 +8,9 @@ use Rattle.patterns.proofs.partners.has_clause.Given as goal
 
 abbrev pub invariant-loop-at : goal.invariant-loop-at
 invariant-loop-at l = record {
-  left : among (l.x ∷ l.y ∷ []) (clauses l.row) ≡ among (l.x ∷ l.y ∷ []) (clauses (drop l.at l.row));
-  on : On l.row (key (l.x ∷ l.y ∷ [])) l.at;
+  left : among (l.x ∷ l.y ∷ []) (clauses l.index.row.now) ≡ among (l.x ∷ l.y ∷ []) (clauses (drop l.at l.index.row.now));
+  on : On l.index.row.now (key (l.x ∷ l.y ∷ [])) l.at;
 }
 
 abbrev pub decreases-loop-at : goal.decreases-loop-at
-decreases-loop-at l = length l.row - l.at
+decreases-loop-at l = length l.index.row.now - l.at
