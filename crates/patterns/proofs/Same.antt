@@ -1,13 +1,11 @@
 -- Clauses are the same where their entries are, and over the same variables where they are one by one.
-use Rattle.std.proofs.Common.{◌≡◌, ◌∙◌, refl, sym, ap, ℕ, ◌+◌, ◌*◌, ◌%◌, ◌^◌, ◌<◌, ◌≤◌, Bool, true, false, List, [], ◌∷◌, map, length, get_or, drop, ℤ, pos, Decides, arith, ne_eqb, eq-eqb}
+use Rattle.std.proofs.Common.{◌≡◌, ◌∙◌, refl, sym, ap, ℕ, ◌+◌, ◌*◌, ◌%◌, ◌^◌, ◌<◌, ◌≤◌, Bool, true, false, List, map, length, get_or, drop, ℤ, pos, arith, ne_eqb, eq-eqb}
 use Rattle.std.specs.Cmp.Lexicographic.{bytes_decides}
 use Rattle.std.proofs.lemmas.Bool.{false_from_ne_true}
 use Rattle.std.proofs.lemmas.List.{drop_all, drop_more, length-map}
 use Rattle.std.proofs.lemmas.Nat.{one_shl}
 use Rattle.ways.specs.Ways.{same}
-use Rattle.ways.proofs.Bools.{agree}
-use Rattle.tables.specs.Literal.{literal, entry, var}
-use Rattle.tables.proofs.Literals.{entry-literal}
+use Rattle.tables.specs.Literal.{literal, var}
 
 -- The variables of a row, and whether two rows have the same from a place on.
 abbrev pub vars : List ℤ → List ℕ

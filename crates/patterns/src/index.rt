@@ -15,9 +15,9 @@ pub struct Index<'a> {
     /// The row.
     pub row: &'a [i32],
     /// For each key where its first clause starts.
-    pub heads: &'a [u16],
+    pub(crate) heads: &'a [u16],
     /// For each place where the next clause of the same key starts as that of the one which starts there.
-    pub links: &'a [u16],
+    pub(crate) links: &'a [u16],
     pub ghost indexed: { Indexed row.now heads.now links.now },
 }
 
@@ -101,7 +101,7 @@ impl<'a> Index<'a> {
 
 /// The row's first clause, without its ending zero.
 pub fn first_clause(row: &[i32]) -> Option<&[i32]>
-    ensures { MatchOption result (clauses row.now ≡ []) (λ c. (map literal c.now ≡ first_part row.now) × (clauses row.now ≡ first_part row.now ∷ clauses (behind row.now))) }
+    ensures { MatchOption result (clauses row.now ≡ []) (λ c. clauses row.now ≡ map literal c.now ∷ clauses (behind row.now)) }
 {
     for (place, &entry) in row.iter().enumerate() {
         if entry == 0 {
