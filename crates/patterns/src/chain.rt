@@ -4,7 +4,8 @@ ghost use Rattle.tables.specs.Literal.{literal};
 ghost use Rattle.tables.specs.Clause.{clauses};
 ghost use Rattle.patterns.specs.Index.{Begins};
 
-use crate::index::{Index, first_clause};
+use crate::index::Index;
+use tables::rows::clauses_of;
 
 /// The clauses of a key that a walk still has to come to, in the row's order.
 #[derive(Drop)]
@@ -44,7 +45,7 @@ impl<'a> Iterator for Chain<'a> {
 
     fn next(&mut self) -> Option<&'a [i32]> {
         let (_, rest) = self.index.row.split_at_checked(self.at)?;
-        let clause = first_clause(rest)?;
+        let clause = clauses_of(rest).next()?;
         self.at = usize::from(self.index.links[self.at]);
         Some(clause)
     }

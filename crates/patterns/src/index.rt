@@ -1,8 +1,7 @@
 // An index of a row's clauses by a key of their variables: chains through the row, from each key's first clause on.
-ghost use Rattle.std.specs.Prelude.{◌≡◌, ◌+◌, ◌*◌, ◌%◌, ◌<◌, ◌≤◌, [], ◌∷◌, map, length, MatchOption};
+ghost use Rattle.std.specs.Prelude.{◌≡◌, ◌+◌, ◌*◌, ◌%◌, ◌<◌, ◌≤◌, [], ◌∷◌, map, length};
 ghost use Rattle.tables.specs.Literal.{literal, var};
-ghost use Rattle.tables.specs.Clause.{clauses};
-ghost use Rattle.patterns.specs.Index.{Heads, Indexed, behind, first_part, key};
+ghost use Rattle.patterns.specs.Index.{Heads, Indexed, key};
 
 use tables::literal::{literal, var};
 
@@ -97,16 +96,4 @@ impl<'a> Index<'a> {
         write(row, heads, links);
         Index { row, heads, links }
     }
-}
-
-/// The row's first clause, without its ending zero.
-pub fn first_clause(row: &[i32]) -> Option<&[i32]>
-    ensures { MatchOption result (clauses row.now ≡ []) (λ c. clauses row.now ≡ map literal c.now ∷ clauses (behind row.now)) }
-{
-    for (place, &entry) in row.iter().enumerate() {
-        if entry == 0 {
-            return Some(&row[..place]);
-        }
-    }
-    None
 }

@@ -16,38 +16,38 @@ returns-in_err-rest-clause-steps c =
 pub returns-in_err-clause-clause-steps : goal.returns-in_err-clause-clause-steps
 returns-in_err-clause-clause-steps c =
     let s = c.args.self.now in
-    let d : c.in_ok-rest.rest.now ≡ drop s.at s.index.row.now = c.in_ok-rest.ensures.cases.2 in
-    let e = none_come s.key (clauses (drop s.at s.index.row.now)) (ap clauses (sym d) ∙ c.in_err-clause.ensures) in
+    let d : c.clauses_of.result.rest.now ≡ drop s.at s.index.row.now = c.clauses_of.ensures ∙ c.in_ok-rest.ensures.cases.2 in
+    let e = none_come s.key (clauses (drop s.at s.index.row.now)) (ap clauses (sym d) ∙ c.in_err-clause.ensures.steps.0) in
     rw (c.from_residual-in_err-clause.ensures) (e, e)
 
 pub bounds-self-self : goal.bounds-self-self
 bounds-self-self c =
     let s = c.args.self.now in
-    let d : c.in_ok-rest.rest.now ≡ drop s.at s.index.row.now = c.in_ok-rest.ensures.cases.2 in
-    let i = is_inside s.index.row.now s.at _ _ (ap clauses (sym d) ∙ c.in_ok-clause.ensures) in
+    let d : c.clauses_of.result.rest.now ≡ drop s.at s.index.row.now = c.clauses_of.ensures ∙ c.in_ok-rest.ensures.cases.2 in
+    let i = is_inside s.index.row.now s.at _ _ (ap clauses (sym d) ∙ c.in_ok-clause.ensures.steps) in
     let r = s.index.indexed.room in
     omega arith
 
 pub invariant_of-self : goal.invariant_of-self
 invariant_of-self c =
     let s = c.args.self.now in
-    let d : c.in_ok-rest.rest.now ≡ drop s.at s.index.row.now = c.in_ok-rest.ensures.cases.2 in
+    let d : c.clauses_of.result.rest.now ≡ drop s.at s.index.row.now = c.clauses_of.ensures ∙ c.in_ok-rest.ensures.cases.2 in
     let l : c.from-self.result ≡ get_or s.index.links.now s.at 0 = search rules in
-    record { begins = rw (l) (next_begins s.index.row.now _ _ s.index.indexed s.key s.at s.begins _ _ (ap clauses (sym d) ∙ c.in_ok-clause.ensures)) }
+    record { begins = rw (l) (next_begins s.index.row.now _ _ s.index.indexed s.key s.at s.begins _ _ (ap clauses (sym d) ∙ c.in_ok-clause.ensures.steps)) }
 
 pub returns-clause-steps : goal.returns-clause-steps
 returns-clause-steps c =
     let s = c.args.self.now in
-    let d : c.in_ok-rest.rest.now ≡ drop s.at s.index.row.now = c.in_ok-rest.ensures.cases.2 in
+    let d : c.clauses_of.result.rest.now ≡ drop s.at s.index.row.now = c.clauses_of.ensures ∙ c.in_ok-rest.ensures.cases.2 in
     let l : c.from-self.result ≡ get_or s.index.links.now s.at 0 = search rules in
-    rw (l) (next_comes s.index.row.now _ _ s.index.indexed s.key s.at s.begins _ _ (ap clauses (sym d) ∙ c.in_ok-clause.ensures))
+    rw (l) (next_comes s.index.row.now _ _ s.index.indexed s.key s.at s.begins _ _ (ap clauses (sym d) ∙ c.in_ok-clause.ensures.steps))
 
 pub returns-clause-goes : goal.returns-clause-goes
 returns-clause-goes c =
     let s = c.args.self.now in
-    let d : c.in_ok-rest.rest.now ≡ drop s.at s.index.row.now = c.in_ok-rest.ensures.cases.2 in
+    let d : c.clauses_of.result.rest.now ≡ drop s.at s.index.row.now = c.clauses_of.ensures ∙ c.in_ok-rest.ensures.cases.2 in
     let l : c.from-self.result ≡ get_or s.index.links.now s.at 0 = search rules in
     let e : with_key s.key (clauses (drop s.at s.index.row.now)) ≡ map literal c.in_ok-clause.clause.now ∷ with_key s.key (clauses (drop c.from-self.result s.index.row.now)) =
-    rw (l) (next_comes s.index.row.now _ _ s.index.indexed s.key s.at s.begins _ _ (ap clauses (sym d) ∙ c.in_ok-clause.ensures)) in
+    rw (l) (next_comes s.index.row.now _ _ s.index.indexed s.key s.at s.begins _ _ (ap clauses (sym d) ∙ c.in_ok-clause.ensures.steps)) in
     let f = ap length e in
     search (rules, arith)
