@@ -1,5 +1,5 @@
 // Parity groups: whether a clause is its group's first in the row, and whether the row has all of the group.
-ghost use Rattle.std.specs.Prelude.{◌≡◌, ◌&&◌, ◌<◌, ◌≤◌, ℕ, true, map, length, take};
+ghost use Rattle.std.specs.Prelude.{◌≡◌, ◌&&◌, ◌<◌, ◌≤◌, ℕ, true, eqb, map, length};
 ghost use Rattle.std.specs.Bool.{OnTrue};
 ghost use Rattle.std.specs.List.{fold, list_all, list_any};
 ghost use Rattle.ways.specs.Ways.{among, same};
@@ -13,28 +13,24 @@ use crate::signs::{is_odd, signs};
 use tables::clause::is_same;
 use tables::literal::{literal, var};
 
-/// The variable of an entry.
-fn variable(entry: i32) -> usize
-    ensures { result ≡ var (literal entry) }
+/// Whether two entries are of one variable.
+fn is_of_variable(entry: i32, other: i32) -> bool
+    ensures { result ≡ eqb (var (literal entry)) (var (literal other)) }
 {
-    var(literal(entry))
+    var(literal(entry)) == var(literal(other))
 }
 
 /// Whether two clauses are over the same variables, one by one.
-#[tactic(auto, using(crate::proofs::Same::vars_start, crate::proofs::Same::vars_on, crate::proofs::Same::vars_apart, crate::proofs::Same::vars_end, crate::proofs::Same::vars_longer))]
+#[tactic(auto, using(crate::proofs::Same::vars_longer))]
 fn has_variables_of(clause: &[i32], anchor: &[i32]) -> bool
     ensures is { result ≡ same (map var (map literal clause.now)) (map var (map literal anchor.now)) }
     ensures long { OnTrue result (length clause.now ≡ length anchor.now) }
 {
-    if clause.len() != anchor.len() {
-        return false;
-    }
-    for (place, &entry) in clause.iter().enumerate() {
-        if variable(entry) != variable(anchor[place]) {
-            return false;
-        }
-    }
-    true
+    clause.len() == anchor.len()
+        && clause
+            .iter()
+            .zip(anchor)
+            .all(|(&entry, &other)| is_of_variable(entry, other))
 }
 
 /// Whether the clause is of the anchor's group: over the same variables, with as many negative literals, odd or even.
