@@ -1,8 +1,7 @@
 // An index of a row's clauses by a key of their variables: chains through the row, from each key's first clause on.
-ghost use Rattle.std.specs.Prelude.{◌≡◌, ◌+◌, ◌*◌, ◌%◌, ◌<◌, ◌≤◌, [], ◌∷◌, map, length, MatchOption};
+ghost use Rattle.std.specs.Prelude.{◌≡◌, ◌+◌, ◌*◌, ◌%◌, ◌<◌, ◌≤◌, [], ◌∷◌, map, length};
 ghost use Rattle.tables.specs.Literal.{literal, var};
-ghost use Rattle.tables.specs.Clause.{clauses};
-ghost use Rattle.patterns.specs.Index.{Heads, Indexed, behind, first_part, key};
+ghost use Rattle.patterns.specs.Index.{Heads, Indexed, key};
 
 use tables::literal::{literal, var};
 
@@ -15,9 +14,9 @@ pub struct Index<'a> {
     /// The row.
     pub row: &'a [i32],
     /// For each key where its first clause starts.
-    pub heads: &'a [u16],
+    pub(crate) heads: &'a [u16],
     /// For each place where the next clause of the same key starts as that of the one which starts there.
-    pub links: &'a [u16],
+    pub(crate) links: &'a [u16],
     pub ghost indexed: { Indexed row.now heads.now links.now },
 }
 
@@ -97,16 +96,4 @@ impl<'a> Index<'a> {
         write(row, heads, links);
         Index { row, heads, links }
     }
-}
-
-/// The row's first clause, without its ending zero.
-pub fn first_clause(row: &[i32]) -> Option<&[i32]>
-    ensures { MatchOption result (clauses row.now ≡ []) (λ c. (map literal c.now ≡ first_part row.now) × (clauses row.now ≡ first_part row.now ∷ clauses (behind row.now))) }
-{
-    for (place, &entry) in row.iter().enumerate() {
-        if entry == 0 {
-            return Some(&row[..place]);
-        }
-    }
-    None
 }

@@ -1,12 +1,12 @@
 // The clauses of two literals that an and-form has beside its anchor: the opposite of the output with the opposite of each
 // other literal.
-ghost use Rattle.std.specs.Prelude.{◌≡◌, ◌≢◌, ◌<◌, ◌∷◌, [], map, take};
+ghost use Rattle.std.specs.Prelude.{◌≡◌, ◌≢◌, ◌<◌, ◌∷◌, [], map};
 ghost use Rattle.ways.specs.Ways.{among, same};
 ghost use Rattle.tables.specs.Literal.{literal};
 ghost use Rattle.tables.specs.Clause.{clauses};
 ghost use Rattle.rules.specs.Patterns.{side};
 
-use crate::index::{Index, first_clause, key_of_two};
+use crate::index::{Index, key_of_two};
 use tables::literal::{literal, opposite};
 
 /// Whether the clause is that of two literals.
@@ -16,28 +16,14 @@ fn is_clause_of(clause: &[i32], x: usize, y: usize) -> bool
     clause.len() == 2 && x == literal(clause[0]) && y == literal(clause[1])
 }
 
-/// Whether the row's first clause is that of two literals.
-fn begins_with(row: &[i32], x: usize, y: usize) -> bool
-    ensures { result ≡ among (x ∷ y ∷ []) (take 1 (clauses row.now)) }
-{
-    match first_clause(row) {
-        Some(clause) => is_clause_of(clause, x, y),
-        None => false,
-    }
-}
-
 /// Whether the row has the clause of two literals: a walk along the chain of its key.
+#[tactic(auto, using(crate::proofs::Keyed::among_keyed))]
 fn has_clause(index: &Index, x: usize, y: usize) -> bool
     ensures { result ≡ among (x ∷ y ∷ []) (clauses index.now.row.now) }
 {
-    let mut at = index.heads[key_of_two(x, y)] as usize;
-    while at < index.row.len() {
-        if begins_with(index.row.split_at(at).1, x, y) {
-            return true;
-        }
-        at = index.links[at] as usize;
-    }
-    false
+    index
+        .chain(key_of_two(x, y))
+        .any(|clause| is_clause_of(clause, x, y))
 }
 
 /// Whether the row has the clause of the opposites of two literals.
