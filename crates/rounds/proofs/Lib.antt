@@ -1,6 +1,5 @@
 -- Laws of the rounds' code.
 pub mod ForceSteps
-pub mod ForceRows
 pub mod ForcePasses
 pub mod Empties
 pub mod StandSteps

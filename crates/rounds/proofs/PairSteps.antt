@@ -1,69 +1,38 @@
--- Laws of a row read clause by clause: its clauses from the open one on.
-use Rattle.std.proofs.Common.{◌≡◌, refl, ap, ℕ, ◌+◌, ◌-◌, ◌<◌, ◌≤◌, List, [], ◌∷◌, length, get_or, take, drop, map, arith, ℤ, pos, true, false}
-use Rattle.std.proofs.lemmas.List.{drop_more, drop_all, take_more, get_or-drop, map_push, length-drop}
-use Rattle.std.specs.List.{filter}
-use Rattle.tables.specs.Literal.{literal}
-use Rattle.tables.specs.Clause.{clauses_from, clauses}
-use Rattle.tables.proofs.Literals.{literal_zero}
-use Rattle.tables.proofs.Clauses.{clause_ends, clause_grows}
+-- The pairs among a row's clauses, one clause after another.
+use Rattle.std.proofs.Common.{◌≡◌, ◌∙◌, refl, sym, ap, subst, ℕ, ◌<◌, Bool, true, false, cond, ◌&&◌, ◌||◌, List, [], ◌∷◌, length, map, ℤ}
+use Rattle.std.specs.List.{All, filter, list_any}
+use Rattle.std.proofs.lemmas.List.Elements.{All-head, All-tail}
+use Rattle.tables.specs.Literal.{literal, var}
+use Rattle.tables.specs.Clause.{clauses}
+use Rattle.tables.proofs.EndedClauses.{all_entries}
 use Rattle.rules.specs.Pairs.{pairs}
 use Rattle.rounds.specs.Pairs.{paired_in}
 
--- The clauses that are not yet ended before a place, where the open one begins at start.
-unfoldable pub left : List ℤ → ℕ → ℕ → List (List ℕ)
-left row start place = clauses_from (map literal (take (place - start) (drop start row))) (drop place row)
+pub pairs_are : (cs left : List (List ℕ)) → left ≡ cs → pairs cs ≡ filter (paired_in cs) left
+unfolding pairs
+pairs_are cs left e = ap (filter (paired_in cs)) (sym e)
 
-pub left_begins : (row : List ℤ) → left row 0 0 ≡ clauses row
-unfolding left clauses
-left_begins row = refl
+module _ (cs left : List (List ℕ)) (c : List ℕ) (rest : List (List ℕ)) (e : left ≡ c ∷ rest) where
+  pub kept_pair : paired_in cs c ≡ true → filter (paired_in cs) left ≡ c ∷ filter (paired_in cs) rest
+  kept_pair q = rw (e, q) refl
 
-pub left_none : (row : List ℤ) (start place : ℕ) → length row ≤ place → left row start place ≡ []
-unfolding left clauses_from
-left_none row start place h = rw (drop_all place row h) refl
+  pub kept_other : paired_in cs c ≡ false → filter (paired_in cs) left ≡ filter (paired_in cs) rest
+  kept_other q = rw (e, q) refl
 
-pub left_ends : (row : List ℤ) (start place : ℕ) → place < length row → get_or row place (pos 0) ≡ pos 0
-    → left row start place ≡ map literal (take (place - start) (drop start row)) ∷ left row (place + 1) (place + 1)
-unfolding left
-left_ends row start place h e =
-    let z : literal (get_or row place (pos 0)) ≡ 0 = ap literal e in
-    let n : place + 1 - (place + 1) ≡ 0 = omega arith in
-    rw (drop_more row place (pos 0) h, clause_ends _ _ (drop (place + 1) row) z, n) refl
+-- The literals of the clause that is met, and of those that are left.
+module _ (n : ℕ) (left : List (List ℕ)) (clause : List ℤ) (rest : List (List ℕ)) (e : left ≡ map literal clause ∷ rest) (w : All (All (λ x. var x < n)) left) where
+  pub inside_clause : All (λ x. var (literal x) < n) clause
+  inside_clause = all_entries (λ x. var x < n) clause (All-head (All (λ x. var x < n)) (map literal clause) rest (subst (All (All (λ x. var x < n))) e w))
 
-pub left_grows : (row : List ℤ) (start place : ℕ) → place < length row → start ≤ place → (get_or row place (pos 0) ≡ pos 0 → ⊥)
-    → left row start place ≡ left row start (place + 1)
-unfolding left
-left_grows row start place h s e =
-    let ne : literal (get_or row place (pos 0)) ≡ 0 → ⊥ = λ q. e (literal_zero (get_or row place (pos 0)) q) in
-    let n : place + 1 - start ≡ (place - start) + 1 = omega arith in
-    let at : start + (place - start) ≡ place = omega arith in
-    let lt : place - start < length (drop start row) = omega (arith, length-drop start row) in
-    rw (drop_more row place (pos 0) h, clause_grows _ _ (drop (place + 1) row) ne, n, take_more (drop start row) (place - start) (pos 0) lt, get_or-drop start row (place - start) (pos 0), at, map_push) refl
+  pub inside_rest : All (All (λ x. var x < n)) rest
+  inside_rest = All-tail (All (λ x. var x < n)) (map literal clause) rest (subst (All (All (λ x. var x < n))) e w)
 
--- The pairs among them.
-unfoldable pub kept : List ℤ → ℕ → ℕ → List (List ℕ)
-kept row start place = filter (paired_in (clauses row)) (left row start place)
-
-pub kept_begins : (row : List ℤ) → kept row 0 0 ≡ pairs (clauses row)
-unfolding kept pairs
-kept_begins row = rw (left_begins row) refl
-
-pub kept_none : (row : List ℤ) (start place : ℕ) → length row ≤ place → kept row start place ≡ []
-unfolding kept
-kept_none row start place h = rw (left_none row start place h) refl
-
-pub kept_grows : (row : List ℤ) (start place : ℕ) → place < length row → start ≤ place → (get_or row place (pos 0) ≡ pos 0 → ⊥)
-    → kept row start place ≡ kept row start (place + 1)
-unfolding kept
-kept_grows row start place h s e = rw (left_grows row start place h s e) refl
-
-pub kept_pair : (row : List ℤ) (start place : ℕ) → place < length row → get_or row place (pos 0) ≡ pos 0
-    → paired_in (clauses row) (map literal (take (place - start) (drop start row))) ≡ true
-    → kept row start place ≡ map literal (take (place - start) (drop start row)) ∷ kept row (place + 1) (place + 1)
-unfolding kept
-kept_pair row start place h e f = rw (left_ends row start place h e, f) refl
-
-pub kept_other : (row : List ℤ) (start place : ℕ) → place < length row → get_or row place (pos 0) ≡ pos 0
-    → paired_in (clauses row) (map literal (take (place - start) (drop start row))) ≡ false
-    → kept row start place ≡ kept row (place + 1) (place + 1)
-unfolding kept
-kept_other row start place h e f = rw (left_ends row start place h e, f) refl
+-- Whether one of the pairs passes a test.
+pub any_pair : (p q : List ℕ → Bool) (cs : List (List ℕ)) → list_any (λ c. p c && q c) cs ≡ list_any q (filter p cs)
+any_pair p q [] = refl
+any_pair p q (c ∷ cs) = go (p c) (any_pair p q cs)
+  where
+    go : (b : Bool) → list_any (λ c. p c && q c) cs ≡ list_any q (filter p cs)
+        → ((b && q c) || list_any (λ c. p c && q c) cs) ≡ list_any q (cond b (c ∷ filter p cs) (filter p cs))
+    go true e = ap (λ b. q c || b) e
+    go false e = e

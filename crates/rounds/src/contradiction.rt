@@ -7,22 +7,13 @@ ghost use Rattle.rules.specs.Rounds.{pinned};
 
 use crate::force::force;
 use rules::marks::is_marked;
+use tables::rows::clauses_of;
 
 /// Whether the row has an empty clause.
-#[tactic(auto, using(crate::proofs::Empties::empty_first, crate::proofs::Empties::empty_here, crate::proofs::Empties::empty_later, crate::proofs::Empties::empty_on, crate::proofs::Empties::none_empty))]
 pub fn has_empty(row: &[i32]) -> bool
     ensures { result ≡ list_any empty (clauses row.now) }
 {
-    let mut start = 0;
-    for (place, &entry) in row.iter().enumerate() {
-        if entry == 0 {
-            if start == place {
-                return true;
-            }
-            start = place + 1;
-        }
-    }
-    false
+    clauses_of(row).any(|clause| clause.is_empty())
 }
 
 /// Whether a literal of the variables 1 to n is marked with its opposite.

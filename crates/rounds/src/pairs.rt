@@ -1,15 +1,15 @@
 // Pairs: two clauses of two literals, the one of the other's opposites, say that the sides of either are opposites.
-ghost use Rattle.std.specs.Prelude.{◌≡◌, ◌+◌, ◌*◌, ◌<◌, ◌≤◌, map, length, eqb, not};
+ghost use Rattle.std.specs.Prelude.{◌≡◌, ◌<◌, ◌≤◌, map, length, eqb, not};
 ghost use Rattle.std.specs.List.{All, fold, list_any};
 ghost use Rattle.tables.specs.Literal.{literal, var};
 ghost use Rattle.tables.specs.Clause.{clauses};
 ghost use Rattle.rules.specs.Pairs.{pairs, torn, join};
-ghost use Rattle.rounds.specs.PairChains.{Indexed};
-ghost use Rattle.rounds.specs.Pairs.{paired_in, found};
+ghost use Rattle.rounds.specs.Pairs.{found};
 
-use crate::pair_chains::{HEADS, has_clause, index};
+use crate::pair_chains::{HEADS, PairIndex};
 use crate::stands::Stands;
-use tables::literal::{literal, opposite};
+use tables::literal::literal;
+use tables::rows::clauses_of;
 use tables::sizes::MOST_ENTRIES;
 
 /// What a round's search for pairs comes to.
@@ -23,49 +23,6 @@ pub enum Pairs {
     Joined,
 }
 
-/// Whether a clause makes a pair in a row that is indexed.
-#[tactic(auto, using(crate::proofs::ChainSteps::opp_below))]
-fn is_pair(row: &[i32], head: &[u16], next: &[u16], clause: &[i32]) -> bool
-    requires indexed { Indexed row.now head.now next.now }
-    requires room { length row.now ≤ length next.now }
-    requires inside { All (λ e. 2 * var (literal e) + 1 < length head.now) clause.now }
-    ensures { result ≡ paired_in (clauses row.now) (map literal clause.now) }
-{
-    clause.len() == 2
-        && has_clause(
-            row,
-            head,
-            next,
-            opposite(literal(clause[0])),
-            opposite(literal(clause[1])),
-        )
-}
-
-/// Joins each pair of the row: whether there is one.
-#[tactic(auto, using(crate::proofs::PairSteps::kept_begins, crate::proofs::PairSteps::kept_none))]
-fn join_each(row: &[i32], head: &[u16], next: &[u16], stands: &mut Stands) -> bool
-    requires indexed { Indexed row.now head.now next.now }
-    requires room { length row.now ≤ length next.now }
-    requires below { All (λ e. 2 * var (literal e) + 1 < length head.now) row.now }
-    requires inside { All (λ e. var (literal e) < length stands.old.row.now) row.now }
-    ensures leaders { stands.new.row.now ≡ fold join stands.old.row.now (pairs (clauses row.now)) }
-    ensures any { result ≡ not (eqb (length (pairs (clauses row.now))) 0) }
-{
-    let mut any = false;
-    let mut start = 0;
-    for (place, &entry) in row.iter().enumerate() {
-        if entry == 0 {
-            let clause = &row[start..place];
-            if is_pair(row, head, next, clause) {
-                stands.join(clause);
-                any = true;
-            }
-            start = place + 1;
-        }
-    }
-    any
-}
-
 /// Whether the sides of a pair, which are opposites, stand for one literal.
 #[tactic(auto, using(crate::proofs::StandSteps::two_sides), unfolding(rules::specs::Pairs::torn))]
 fn is_torn(stands: &Stands, clause: &[i32]) -> bool
@@ -75,25 +32,27 @@ fn is_torn(stands: &Stands, clause: &[i32]) -> bool
     stands.replacement(literal(clause[0])) == stands.replacement(literal(clause[1]))
 }
 
-/// Whether a pair of the row is torn.
-#[tactic(auto, using(crate::proofs::PairSteps::kept_begins, crate::proofs::PairSteps::kept_grows, crate::proofs::PairSteps::kept_pair, crate::proofs::PairSteps::kept_other, crate::proofs::PairSteps::kept_none))]
-fn any_torn(row: &[i32], head: &[u16], next: &[u16], stands: &Stands) -> bool
-    requires indexed { Indexed row.now head.now next.now }
-    requires room { length row.now ≤ length next.now }
-    requires below { All (λ e. 2 * var (literal e) + 1 < length head.now) row.now }
-    ensures { result ≡ list_any (torn stands.now.row.now) (pairs (clauses row.now)) }
+/// Joins each pair of the row: whether there is one.
+fn join_each(index: &PairIndex, stands: &mut Stands) -> bool
+    requires inside { All (λ e. var (literal e) < length stands.old.row.now) index.now.row.now }
+    ensures leaders { stands.new.row.now ≡ fold join stands.old.row.now (pairs (clauses index.now.row.now)) }
+    ensures any { result ≡ not (eqb (length (pairs (clauses index.now.row.now))) 0) }
 {
-    let mut start = 0;
-    for (place, &entry) in row.iter().enumerate() {
-        if entry == 0 {
-            let clause = &row[start..place];
-            if is_pair(row, head, next, clause) && is_torn(stands, clause) {
-                return true;
-            }
-            start = place + 1;
+    let mut any = false;
+    for clause in clauses_of(index.row) {
+        if index.is_pair(clause) {
+            stands.join(clause);
+            any = true;
         }
     }
-    false
+    any
+}
+
+/// Whether a pair of the row is torn.
+fn any_torn(index: &PairIndex, stands: &Stands) -> bool
+    ensures { result ≡ list_any (torn stands.now.row.now) (pairs (clauses index.now.row.now)) }
+{
+    clauses_of(index.row).any(|clause| index.is_pair(clause) && is_torn(stands, clause))
 }
 
 /// Joins the pairs of a row: each variable then stands for the literal of the lowest variable of its class.
@@ -105,11 +64,11 @@ pub fn join_pairs(row: &[i32], stands: &mut Stands) -> Pairs
 {
     let mut head = [0; HEADS];
     let mut next = [0; MOST_ENTRIES];
-    index(row, &mut head, &mut next);
-    if !join_each(row, &head, &next, stands) {
+    let index = PairIndex::new(row, &mut head, &mut next);
+    if !join_each(&index, stands) {
         return Pairs::NoPair;
     }
-    if any_torn(row, &head, &next, stands) {
+    if any_torn(&index, stands) {
         Pairs::Torn
     } else {
         Pairs::Joined
