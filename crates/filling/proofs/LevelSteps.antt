@@ -11,16 +11,6 @@ use Rattle.gates.specs.declared.site.Site.{Site}
 use Rattle.gates.specs.Sites.{anchor_of, gate_of, gates_of}
 use Rattle.gates.proofs.SiteLaws.{vars_at}
 
-highest_vars : (lv xs : List ℕ) → highest lv xs ≡ fold (λ high v. max high (get_or lv v 0)) 0 (map var xs)
-unfolding highest
-highest_vars lv xs = sym (fold-map (λ high v. max high (get_or lv v 0)) var 0 xs)
-
-pub highest_at : (row : List ℤ) (s : Site) (lv : List ℕ)
-    → highest lv (gate_of row s).inputs ≡ fold (λ high l. max high (get_or lv (var l) 0)) 0 (others s.output (map literal (slice_range row s.start s.end)))
-highest_at row s lv =
-    highest_vars lv (gate_of row s).inputs ∙ ap (fold (λ high v. max high (get_or lv v 0)) 0) (vars_at row s)
-    ∙ fold-map (λ high v. max high (get_or lv v 0)) var 0 (others s.output (anchor_of row s))
-
 pub levels_none : (k : ℕ) → 1 ≤ k → levels (k - 1) [] ≡ replicate k 0
 unfolding levels
 levels_none k h = let e : k - 1 + 1 ≡ k = omega arith in rw (e) refl
@@ -42,8 +32,8 @@ high_below lv [] k b h all = h
 high_below lv (x ∷ inputs) k b h all = let q = all (var x) in high_below lv inputs (max k (get_or lv (var x) 0)) b (omega arith) all
 
 -- No level is higher than the number of gates before.
-pub levels_low : (n : ℕ) (row : List ℤ) (sites : List Site) (i : ℕ) (g : Gate) → highest (levels n (gates_of row (take i sites))) g.inputs ≤ i
+pub levels_low : (n : ℕ) (row : List ℤ) (sites : List Site) (i : ℕ) (inputs : List ℕ) → highest (levels n (gates_of row (take i sites))) inputs ≤ i
 unfolding highest
-levels_low n row sites i g =
-    high_below (levels n (gates_of row (take i sites))) g.inputs 0 i (omega arith)
+levels_low n row sites i inputs =
+    high_below (levels n (gates_of row (take i sites))) inputs 0 i (omega arith)
     (λ v. let q = Circuits.levels_low n (gates_of row (take i sites)) v in omega (arith, length-map (take i sites) (gate_of row), length-take i sites))
