@@ -1,19 +1,17 @@
 -- Laws of asking: what is remembered, which gate has an output, the levels that fall, and the inputs one by one.
-use Rattle.std.proofs.Common.{◌≡◌, ℕ, ◌+◌, ◌-◌, ◌*◌, ◌<◌, ◌≤◌, Bool, true, false, cond, not, eqb, ◌⊎◌, List, [], ◌∷◌, ℤ, map, length, drop, get_or, set, replicate, Option, None, Some, add_assoc, add-zero, sym, refl, ap, ◌∙◌, subst, ⊎_elim, arith, eq-eqb, ne_eqb, get_or-set_other}
+use Rattle.std.proofs.Common.{◌≡◌, ℕ, ◌+◌, ◌-◌, ◌*◌, ◌<◌, ◌≤◌, Bool, true, false, cond, ◌⊎◌, List, [], ◌∷◌, length, get_or, set, replicate, Option, None, Some, add_assoc, add-zero, sym, ap, ◌∙◌, subst, ⊎_elim, arith, get_or-set_other}
 use mathlib.Core.List.Memᴰ
 use mathlib.Core.List.{Memᴰ}
 use Rattle.std.specs.List.{count_by}
-use Rattle.std.proofs.lemmas.Bool.{cases_eq, eqb-false}
-use Rattle.std.proofs.lemmas.List.{drop_more, drop_all}
+use Rattle.std.proofs.lemmas.Bool.{cases_eq}
 use Rattle.std.proofs.lemmas.List.Sums.{sum_by-cons}
-use Rattle.ways.proofs.Rows.{mem-filter}
-use Rattle.ways.proofs.Members.{get_or-mem, get_or_same, set_cases}
-use Rattle.tables.specs.Literal.{literal, var, holds, valued}
+use Rattle.ways.proofs.Members.{get_or_same, set_cases}
+use Rattle.tables.specs.Literal.{var, holds, valued}
 use Rattle.tables.proofs.Literals.{holds_alike}
 use Rattle.rules.specs.Kinds.{rule}
 use Rattle.rules.specs.Pairs.{stands}
 use Rattle.rules.specs.Ask.{ask_root, asked}
-use Rattle.rules.specs.Patterns.{Gate, others}
+use Rattle.rules.specs.Patterns.{Gate}
 use Rattle.rules.specs.Circuit.{levels}
 use Rattle.rules.specs.Fill.{fill_gates}
 use Rattle.circuits.proofs.Asked.{asked_is}
@@ -21,9 +19,9 @@ use Rattle.circuits.proofs.Filled.{fill_other, fill_rules}
 use Rattle.circuits.proofs.Levels.{level_is, level_rises}
 use Rattle.gates.specs.declared.site.Site.{Site}
 use Rattle.filling.specs.declared.ask.Circuit.{Circuit}
-use Rattle.gates.specs.Sites.{Within, entries_of, anchor_of, gate_of}
+use Rattle.gates.specs.Sites.{Within, gate_of}
 use Rattle.gates.specs.TakenGates.{gates_in}
-use Rattle.gates.specs.Inputs.{input, inputs}
+use Rattle.gates.specs.Inputs.{inputs}
 use Rattle.gates.specs.Counting.{counts}
 use Rattle.filling.specs.Places.{IsGateFor}
 use Rattle.filling.specs.Asking.{IsCircuit, IsTaken, ended, level, Remembers}

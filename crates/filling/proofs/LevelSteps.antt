@@ -1,15 +1,12 @@
 -- The levels, gate by gate.
-use Rattle.std.proofs.Common.{◌≡◌, ◌∙◌, sym, refl, ap, ℕ, ◌+◌, ◌-◌, ◌<◌, ◌≤◌, max, List, [], ◌∷◌, ◌++◌, map, take, ℤ, fold, length, get_or, replicate, slice_range, arith}
+use Rattle.std.proofs.Common.{◌≡◌, ◌∙◌, refl, ap, ℕ, ◌+◌, ◌-◌, ◌<◌, ◌≤◌, max, List, [], ◌∷◌, ◌++◌, take, ℤ, fold, length, get_or, replicate, arith}
 use Rattle.std.proofs.lemmas.List.{take_more, length-map, length-take}
-use Rattle.std.proofs.lemmas.List.Folds.{fold-map}
 use Rattle.std.proofs.lemmas.List.Sums.{fold_push}
-use Rattle.tables.specs.Literal.{literal, var}
-use Rattle.rules.specs.Patterns.{Gate, others}
+use Rattle.tables.specs.Literal.{var}
 use Rattle.rules.specs.Circuit.{highest, level_step, levels}
 use Rattle.circuits.proofs.Levels as Circuits
 use Rattle.gates.specs.declared.site.Site.{Site}
-use Rattle.gates.specs.Sites.{anchor_of, gate_of, gates_of}
-use Rattle.gates.proofs.SiteLaws.{vars_at}
+use Rattle.gates.specs.Sites.{gate_of, gates_of}
 
 pub levels_none : (k : ℕ) → 1 ≤ k → levels (k - 1) [] ≡ replicate k 0
 unfolding levels

@@ -1,5 +1,5 @@
 -- Asking for one variable: the circuit that is asked, the answers, and what is remembered of them.
-use Rattle.std.specs.Prelude.{◌≡◌, ℕ, ◌≤◌, Bool, cond, List, length, get_or, eqb, Option, None, Some}
+use Rattle.std.specs.Prelude.{◌≡◌, ℕ, ◌≤◌, Bool, List, length, get_or, Option, None, Some}
 use mathlib.Core.List.{Memᴰ}
 use Rattle.tables.specs.Literal.{valued}
 use Rattle.rules.specs.Patterns.{Gate}

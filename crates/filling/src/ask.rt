@@ -97,9 +97,9 @@ fn gate_value(circuit: &Circuit, places: &[u16], memo: &mut [Option<bool>], site
 #[tactic(auto, using(crate::proofs::AskSteps::asked_ended))]
 pub fn ask(circuit: &Circuit, stands: &[u16], variable: usize) -> bool
     requires circuit { IsCircuit circuit.now }
-    requires few { variable ≤ 1024 }
+    requires few { variable ≤ MOST_VARIABLES }
     requires few_gates { length circuit.now.taken.sites.now < 2 ^ 16 }
-    requires outputs { All (λ site. var site.output ≤ 1024) circuit.now.taken.sites.now }
+    requires outputs { All (λ site. var site.output ≤ MOST_VARIABLES) circuit.now.taken.sites.now }
     ensures { result ≡ asked stands.now (gates_in circuit.now.taken) circuit.now.given.now variable }
 {
     let mut places = [0; ROOM];

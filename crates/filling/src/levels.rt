@@ -10,7 +10,8 @@ ghost use Rattle.gates.specs.TakenGates.{gates_in};
 
 use gates::site::Site;
 use gates::taken::Taken;
-use tables::literal::{literal, var};
+use tables::literal::var;
+use tables::sizes::MOST_VARIABLES;
 
 /// The level of a variable: 0 beyond the row.
 fn level_of(levels: &[u16], variable: usize) -> u16
@@ -52,7 +53,7 @@ fn level_step(row: &[i32], site: Site, levels: &mut [u16])
 /// The levels by variable, gate after gate.
 #[tactic(auto, using(crate::proofs::LevelSteps::levels_none, crate::proofs::LevelSteps::levels_more, crate::proofs::LevelSteps::levels_low))]
 pub fn levels(taken: &Taken, levels: &mut [u16])
-    requires few { length taken.now.sites.now ≤ 1024 }
+    requires few { length taken.now.sites.now ≤ MOST_VARIABLES }
     requires some { 1 ≤ length levels.old }
     ensures { levels.new ≡ Rattle.rules.specs.Circuit.levels (length levels.old - 1) (gates_in taken.now) }
 {

@@ -1,6 +1,5 @@
 -- Asking goes down the levels, and every answer is right.
 use Rattle.std.proofs.Common.{◌≡◌, ◌-◌, ◌*◌, ◌<◌, cond, [], ◌∷◌, length, refl, sym, ap, subst, ◌∙◌, arith, rules}
-use mathlib.Core.List.Memᴰ
 use mathlib.Core.List.{Memᴰ}
 use Rattle.tables.specs.Literal.{var}
 use Rattle.gates.specs.Inputs.{inputs, to_come}
