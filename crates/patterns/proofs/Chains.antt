@@ -96,8 +96,6 @@ heads_start row heads h f = record {
     alike = rw (f j l, drop_all (length row) row (omega arith)) refl;
     keyed = λ m. absurd (let e = f j l in omega arith);
   };
-  later = λ j l m. absurd (omega arith);
-  above = λ j l. let e = f j l in omega arith;
 }
 
 pub filled : (row : List ℤ) (n : ℕ) → n ≡ 1024 → Heads row (length row) 0 (replicate n (length row))
@@ -113,8 +111,6 @@ module _ (row : List ℤ) (i k : ℕ) (heads : List ℕ) (h : i < length row) (n
     keys = length-set heads k (i + 1) ∙ now.keys;
     open_key = none_open ∙ ap key (sym part);
     leads = λ j l. subst (λ zs. Leads row j zs (get_or (set heads k (i + 1)) j 0)) (sym rest) (⊎_elim (own j) (other j l) (cases_eq j k));
-    later = λ j l m. beyond j l;
-    above = λ j l. let m = beyond j l in omega arith;
   }
     where
       zero : literal (get_or row i (pos 0)) ≡ 0
@@ -129,11 +125,6 @@ module _ (row : List ℤ) (i k : ℕ) (heads : List ℕ) (h : i < length row) (n
       inside : k < length heads
       inside = let q = now.keys in omega arith
 
-      beyond : (j : ℕ) → j < 1024 → i < get_or (set heads k (i + 1)) j 0
-      beyond j l =
-          ⊎_elim (λ (q : j ≡ k). rw (q, get_or-set_same heads k (i + 1) 0 inside) (omega arith))
-          (λ (n : j ≡ k → ⊥). rw (get_or-set_other heads k j (i + 1) 0 n) (let m = now.above j l in omega arith)) (cases_eq j k)
-
       own : (j : ℕ) → j ≡ k → Leads row j (drop (i + 1) row) (get_or (set heads k (i + 1)) j 0)
       own j q = rw (q, get_or-set_same heads k (i + 1) 0 inside) (record { alike = refl; keyed = λ _. sym now.open_key })
 
@@ -146,8 +137,6 @@ module _ (row : List ℤ) (i k : ℕ) (heads : List ℕ) (h : i < length row) (n
     keys = now.keys;
     open_key = one_more ∙ ap key (sym part);
     leads = λ j l. subst (λ zs. Leads row j zs (get_or heads j 0)) (sym rest) (now.leads j l);
-    later = λ j l m. let n = now.above j l in omega arith;
-    above = λ j l. let n = now.above j l in omega arith;
   }
     where
       some : literal (get_or row i (pos 0)) ≡ 0 → ⊥
@@ -173,16 +162,12 @@ links_set row i k heads links h now b old = record {
     same = get_or-set_same links i (get_or heads k 0) 0 (let r = old.room in omega arith)
 
     here : Linked row (set links i (get_or heads k 0)) i
-    here = record {
-      later = rw (same) (now.later k b h);
-      leads = rw (same, ← now.open_key) (now.leads k b);
-    }
+    here = rw (same, ← now.open_key) (now.leads k b)
 
     there : (s : ℕ) → i ≤ s → s < length row → (s ≡ i → ⊥) → Linked row (set links i (get_or heads k 0)) s
     there s l m n =
         let o : get_or (set links i (get_or heads k 0)) s 0 ≡ get_or links s 0 = get_or-set_other links i s (get_or heads k 0) 0 n in
-        let q = old.next s (omega arith) m in
-        record { later = rw (o) q.later; leads = rw (o) q.leads }
+        rw (o) (old.next s (omega arith) m)
 
 -- All is read back.
 pub indexed : (row : List ℤ) (k : ℕ) (heads links : List ℕ) → Heads row 0 k heads → k < 1024 → Links row 0 links → Indexed row (set heads k 0) links

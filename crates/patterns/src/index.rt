@@ -1,21 +1,23 @@
 // An index of a row's clauses by a key of their variables: chains through the row, from each key's first clause on.
-ghost use Rattle.std.specs.Prelude.{◌≡◌, ◌+◌, ◌*◌, ◌%◌, ◌<◌, ◌≤◌, [], ◌∷◌, map, length, MatchOption};
+ghost use Rattle.std.specs.Prelude.{◌≡◌, ◌+◌, ◌*◌, ◌%◌, ◌<◌, ◌≤◌, [], ◌∷◌, map, length};
 ghost use Rattle.tables.specs.Literal.{literal, var};
-ghost use Rattle.tables.specs.Clause.{clauses};
-ghost use Rattle.patterns.specs.Index.{Heads, Indexed, behind, first_part, key};
+ghost use Rattle.patterns.specs.Index.{Heads, Indexed, key};
 
 use tables::literal::{literal, var};
 
 /// How many keys there are.
-const KEYS: usize = 1024;
+pub const KEYS: usize = 1024;
 
-/// The index of a row. The row's length stands for no place.
+/// A row with the index of its clauses. The row's length stands for no place.
 #[derive(Clone, Copy)]
 pub struct Index<'a> {
+    /// The row.
+    pub row: &'a [i32],
     /// For each key where its first clause starts.
-    pub heads: &'a [u16],
+    pub(crate) heads: &'a [u16],
     /// For each place where the next clause of the same key starts as that of the one which starts there.
-    pub links: &'a [u16],
+    pub(crate) links: &'a [u16],
+    pub ghost indexed: { Indexed row.now heads.now links.now },
 }
 
 /// The key of a clause that has one variable more before those of this key.
@@ -66,8 +68,8 @@ fn read_back(row: &[i32], place: usize, key: usize, heads: &mut [u16]) -> usize
     }
 }
 
-/// Builds the index of the row.
-pub fn build(row: &[i32], heads: &mut [u16], links: &mut [u16])
+/// Writes the row's index.
+fn write(row: &[i32], heads: &mut [u16], links: &mut [u16])
     requires short { length row.now ≤ 16384 }
     requires keys { length heads.old ≡ 1024 }
     requires room { length row.now ≤ length links.old }
@@ -83,14 +85,15 @@ pub fn build(row: &[i32], heads: &mut [u16], links: &mut [u16])
     heads[key] = 0;
 }
 
-/// The row's first clause, without its ending zero.
-pub fn first_clause(row: &[i32]) -> Option<&[i32]>
-    ensures { MatchOption result (clauses row.now ≡ []) (λ c. (map literal c.now ≡ first_part row.now) × (clauses row.now ≡ first_part row.now ∷ clauses (behind row.now))) }
-{
-    for (place, &entry) in row.iter().enumerate() {
-        if entry == 0 {
-            return Some(&row[..place]);
-        }
+impl<'a> Index<'a> {
+    /// The row's index, written into the lent rows of places.
+    pub fn build(row: &'a [i32], heads: &'a mut [u16], links: &'a mut [u16]) -> Index<'a>
+        requires short { length row.now ≤ 16384 }
+        requires keys { length heads.old ≡ 1024 }
+        requires room { length row.now ≤ length links.old }
+        ensures { result.row.now ≡ row.now }
+    {
+        write(row, heads, links);
+        Index { row, heads, links }
     }
-    None
 }

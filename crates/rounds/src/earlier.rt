@@ -5,19 +5,11 @@ ghost use Rattle.tables.specs.Literal.{literal};
 ghost use Rattle.tables.specs.Clause.{clauses};
 
 use tables::clause::is_same;
+use tables::rows::clauses_of;
 
 /// Whether the clause, which has no ending zero here, is one of the row.
 pub fn is_among(clause: &[i32], row: &[i32]) -> bool
     ensures { result ≡ among (map literal clause.now) (clauses row.now) }
 {
-    let mut start = 0;
-    for (place, &entry) in row.iter().enumerate() {
-        if entry == 0 {
-            if is_same(clause, &row[start..place]) {
-                return true;
-            }
-            start = place + 1;
-        }
-    }
-    false
+    clauses_of(row).any(|other| is_same(clause, other))
 }

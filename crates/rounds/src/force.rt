@@ -11,6 +11,7 @@ ghost use Rattle.rules.specs.Rounds.{pinned};
 use rules::marks::{is_marked, mark};
 use tables::clause::is_void;
 use tables::literal::{literal, opposite};
+use tables::rows::clauses_of;
 
 /// Whether the clause forces a literal: the opposites of all its other literals are marked.
 #[tactic(auto, unfolding(rules::specs::Forced::forces))]
@@ -86,18 +87,14 @@ pub fn force_clause(clause: &[i32], marks: &mut [u8]) -> bool
 }
 
 /// One pass over the row's clauses; whether any mark is new.
-#[tactic(auto, using(crate::proofs::ForcePasses::passed_start, crate::proofs::ForcePasses::passed_end, crate::proofs::ForcePasses::passed_on, crate::proofs::ForcePasses::passed_all))]
+#[tactic(auto, unfolding(rules::specs::Forced::pass))]
 pub fn pass_over(row: &[i32], marks: &mut [u8]) -> bool
     ensures passed { marks.new ≡ pass (clauses row.now) marks.old }
     ensures still { OnFalse result (marks.new ≡ marks.old) }
 {
-    let mut start = 0;
     let mut grown = false;
-    for (place, &entry) in row.iter().enumerate() {
-        if entry == 0 {
-            grown = force_clause(&row[start..place], marks) || grown;
-            start = place + 1;
-        }
+    for clause in clauses_of(row) {
+        grown = force_clause(clause, marks) || grown;
     }
     grown
 }

@@ -6,3 +6,4 @@ pub mod LookUps
 pub mod Few
 pub mod SameEntries
 pub mod Verdicts
+pub mod EndedClauses
