@@ -1,5 +1,5 @@
 -- The variables are compared pair by pair.
-use Rattle.std.proofs.Common.{◌≡◌, ◌∙◌, eqb, rules, tests}
+use Rattle.std.proofs.Common.{◌∙◌, eqb, rules, tests}
 use Rattle.std.proofs.lemmas.Iterator.{YieldsList-from_slice, YieldsList-from_zip}
 use Rattle.std.proofs.lemmas.Iterator.Search.{all_from_yields_List}
 use Rattle.tables.specs.Literal.{literal, var}
