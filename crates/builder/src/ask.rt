@@ -16,7 +16,7 @@ use gates::site::Site;
 use rules::book::Book;
 use tables::check::check;
 use tables::numbers::Refusal;
-use tables::sizes::MOST_VARIABLES;
+use tables::sizes::{MOST_VARIABLES, VARIABLE_NUMBERS};
 
 /// Whether the values given are enough.
 #[tactic(auto, unfolding(tables::specs::Numbers::refuse))]
@@ -73,7 +73,7 @@ fn asked(
 {
     check(n, table)?;
     in_range(n, variable)?;
-    let mut stands = [0; MOST_VARIABLES + 1];
+    let mut stands = [0; VARIABLE_NUMBERS];
     let mut sites = [Site::default(); MOST_VARIABLES];
     let evening = begin_evening(n, table, book, work, &mut stands, &mut sites)?;
     ask_evening(&evening, given, variable)

@@ -15,7 +15,7 @@ use gates::site::Site;
 use rules::book::Book;
 use tables::check::check;
 use tables::numbers::Refusal;
-use tables::sizes::MOST_VARIABLES;
+use tables::sizes::{MOST_VARIABLES, VARIABLE_NUMBERS};
 
 /// Whether there is room for a value of each variable.
 #[tactic(auto, unfolding(tables::specs::Numbers::refuse))]
@@ -57,7 +57,7 @@ fn filled_in(
     ensures values { values.new ≡ fill_values n table.now book.now (length work.old) given.now values.old }
 {
     check(n, table)?;
-    let mut stands = [0; MOST_VARIABLES + 1];
+    let mut stands = [0; VARIABLE_NUMBERS];
     let mut sites = [Site::default(); MOST_VARIABLES];
     let evening = begin_evening(n, table, book, work, &mut stands, &mut sites)?;
     fill_evening(&evening, given, values)

@@ -10,7 +10,7 @@ ghost use Rattle.builder.specs.Values.{is_bad, bad_in};
 use crate::evening::Evening;
 use gates::outputs::{is_free, mark_outputs};
 use tables::numbers::Refusal;
-use tables::sizes::MOST_VARIABLES;
+use tables::sizes::VARIABLE_NUMBERS;
 
 /// Whether the value at a place is neither 0 nor 1. None is beyond the row.
 fn is_no_bit(values: &[u8], place: usize) -> bool
@@ -37,7 +37,7 @@ pub fn check_values(evening: &Evening, given: &[u8]) -> Result<(), Refusal>
     requires few { evening.now.n ≤ 1024 }
     ensures { result ≡ bad_value (bad_in evening.now given.now) }
 {
-    let mut outputs = [0; MOST_VARIABLES + 1];
+    let mut outputs = [0; VARIABLE_NUMBERS];
     mark_outputs(evening.taken.sites, &mut outputs);
     for variable in 1..evening.n + 1 {
         if is_bad(evening, &outputs, given, variable) {

@@ -3,6 +3,7 @@
 ghost use Rattle.std.specs.Prelude.{◌≡◌, ◌+◌, ◌<◌, ◌≤◌, ◌^◌, ◌∷◌, ◌&&◌, [], map, length, get_or, set, replicate};
 ghost use Rattle.std.specs.List.{All};
 ghost use Rattle.ways.specs.Ways.{among};
+ghost use Rattle.tables.specs.Sizes.{most_entries};
 ghost use Rattle.tables.specs.Literal.{literal};
 ghost use Rattle.tables.specs.Clause.{clauses};
 ghost use Rattle.rounds.specs.PairChains.{Indexed, Indexed-prop};
@@ -10,10 +11,6 @@ ghost use Rattle.rounds.specs.Pairs.{paired_in};
 
 use tables::literal::{literal, opposite};
 use tables::rows::clauses_of;
-use tables::sizes::MOST_VARIABLES;
-
-/// A chain for each literal, and two for the values.
-pub const HEADS: usize = 2 * MOST_VARIABLES + 2;
 
 /// A row with its chains.
 #[derive(Drop)]
@@ -54,7 +51,7 @@ impl<'a> PairIndex<'a> {
         requires inside { All (λ e. literal e < length head.old) row.now }
         requires none { head.old ≡ replicate (length head.old) 0 }
         requires room { length row.now ≤ length next.old }
-        requires short { length row.now ≤ 16384 }
+        requires short { length row.now ≤ most_entries }
         ensures { result.row.now ≡ row.now }
     {
         let mut start = 0;

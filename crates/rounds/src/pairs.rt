@@ -1,16 +1,17 @@
 // Pairs: two clauses of two literals, the one of the other's opposites, say that the sides of either are opposites.
 ghost use Rattle.std.specs.Prelude.{◌≡◌, ◌<◌, ◌≤◌, map, length, eqb, not};
 ghost use Rattle.std.specs.List.{All, fold, list_any};
+ghost use Rattle.tables.specs.Sizes.{most_entries};
 ghost use Rattle.tables.specs.Literal.{literal, var};
 ghost use Rattle.tables.specs.Clause.{clauses};
 ghost use Rattle.rules.specs.Pairs.{pairs, torn, join};
 ghost use Rattle.rounds.specs.Pairs.{found};
 
-use crate::pair_chains::{HEADS, PairIndex};
+use crate::pair_chains::PairIndex;
 use crate::stands::Stands;
 use tables::literal::literal;
 use tables::rows::clauses_of;
-use tables::sizes::MOST_ENTRIES;
+use tables::sizes::{LITERAL_NUMBERS, MOST_ENTRIES};
 
 /// What a round's search for pairs comes to.
 #[derive(Clone, Copy, Debug, PartialEq, Eq)]
@@ -58,11 +59,11 @@ fn any_torn(index: &PairIndex, stands: &Stands) -> bool
 /// Joins the pairs of a row: each variable then stands for the literal of the lowest variable of its class.
 pub fn join_pairs(row: &[i32], stands: &mut Stands) -> Pairs
     requires inside { All (λ e. var (literal e) < length stands.old.row.now) row.now }
-    requires short { length row.now ≤ 16384 }
+    requires short { length row.now ≤ most_entries }
     ensures leaders { stands.new.row.now ≡ fold join stands.old.row.now (pairs (clauses row.now)) }
     ensures found { result ≡ found stands.new.row.now (pairs (clauses row.now)) }
 {
-    let mut head = [0; HEADS];
+    let mut head = [0; LITERAL_NUMBERS];
     let mut next = [0; MOST_ENTRIES];
     let index = PairIndex::new(row, &mut head, &mut next);
     if !join_each(&index, stands) {

@@ -1,5 +1,6 @@
 // One round: forced literals, cleaning, pairs, substitution.
 ghost use Rattle.std.specs.Prelude.{◌≡◌, ◌+◌, ◌*◌, ◌≤◌, length, take};
+ghost use Rattle.tables.specs.Sizes.{most_variables, most_entries};
 ghost use Rattle.rules.specs.Rounds.{round, pinned};
 ghost use Rattle.settling.proofs.Round.{Good};
 ghost use Rattle.rounds.specs.Ended.{Ended};
@@ -33,9 +34,9 @@ pub fn round(
     all: &mut [u16],
     stands: &mut [u16],
 ) -> Turn
-    requires few { n ≤ 1024 }
+    requires few { n ≤ most_variables }
     requires within { entries ≤ length row.old }
-    requires short { entries ≤ 16384 }
+    requires short { entries ≤ most_entries }
     requires ended { Ended (take entries row.old) }
     requires marks { length marks.old ≡ 2 * n + 2 }
     requires stands { length stands.old ≡ n + 1 }

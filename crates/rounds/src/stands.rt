@@ -1,6 +1,7 @@
 // What each variable stands for, by the pairs.
 ghost use Rattle.std.specs.Prelude.{◌≡◌, ◌+◌, ◌-◌, ◌*◌, ◌<◌, ◌≤◌, ◌^◌, map, length};
 ghost use Rattle.std.specs.List.{All};
+ghost use Rattle.tables.specs.Sizes.{most_variables};
 ghost use Rattle.tables.specs.Literal.{literal, var};
 ghost use Rattle.rules.specs.Pairs.{replace, starting, alone, give_way, meet, join};
 ghost use Rattle.rounds.specs.Pairs.{Coded};
@@ -13,16 +14,16 @@ use tables::literal::{is_negative, literal, opposite, var};
 #[derive(Drop)]
 pub struct Stands<'a> {
     row: &'a mut [u16],
-    ghost few: { length row.now ≤ 1025 },
+    ghost few: { length row.now ≤ most_variables + 1 },
     ghost coded: { Coded row.now },
 }
 
 /// What a variable stands for at first: a forced one for its value, any other for itself.
 #[tactic(auto, unfolding(rules::specs::Pairs::alone))]
 fn alone(marks: &[u8], variable: usize) -> usize
-    requires { variable ≤ 1025 }
+    requires { variable ≤ most_variables + 1 }
     ensures is { result ≡ alone marks.now variable }
-    ensures within { result ≤ 2 * 1025 }
+    ensures within { result ≤ 2 * (most_variables + 1) }
 {
     if is_marked(marks, 2 * variable) {
         1
@@ -82,7 +83,7 @@ impl<'a> Stands<'a> {
     #[tactic(auto, using(crate::proofs::StandSteps::start_ends))]
     pub fn start(row: &'a mut [u16], marks: &[u8]) -> Stands<'a>
         requires some { 1 ≤ length row.old }
-        requires few { length row.old ≤ 1025 }
+        requires few { length row.old ≤ most_variables + 1 }
         ensures is { result.row.now ≡ starting (length row.old - 1) marks.now }
         ensures same_row { result.row.ghost_name ≡ row.entry.ghost_name }
     {

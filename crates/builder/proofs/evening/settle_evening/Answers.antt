@@ -21,9 +21,6 @@ pub take_gates-requires-clause-short : goal.take_gates-requires-clause-short
 take_gates-requires-clause-short c =
     rw c.split_at.ensures.front (omega (arith, length-take-le c.in_ok-settled.settled.entries c.settle.new.row c.in_ok-settled.ensures.within, c.in_ok-settled.ensures.short))
 
-pub take_gates-requires-clause-fake : goal.take_gates-requires-clause-fake
-take_gates-requires-clause-fake c = ?
-
 pub take_gates-requires-clause-settled : goal.take_gates-requires-clause-settled
 take_gates-requires-clause-settled c =
     let w = accepted_outcome _ c.in_ok-settled.settled c.settle.new.all c.settle.new.row c.in_ok-settled.ensures.is in
