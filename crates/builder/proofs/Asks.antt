@@ -11,16 +11,10 @@ use Rattle.gates.specs.declared.site.Site.{Site}
 use Rattle.gates.proofs.SiteLaws.{output_at}
 use Rattle.filling.specs.Asking.{IsCircuit}
 use Rattle.filling.specs.declared.ask.Circuit.{Circuit}
-use Rattle.builder.specs.Evenings.{Sized, Evaluates}
-use Rattle.builder.specs.declared.evening.Evening.{Evening}
+use Rattle.builder.specs.Evenings.{Evaluates}
+use Rattle.listing.specs.declared.evening.Evening.{Evening}
 
-module _ (e : Evening) (s : Sized e) (v : Evaluates e) where
-  pub outputs_few : All (λ site. var site.output ≤ 1024) e.taken.sites.now
-  outputs_few k d h =
-      let site : Site = get_or e.taken.sites.now k d in
-      let out = (v.outputs (gate_of e.taken.row.now site) (Memᴰ.map (gate_of e.taken.row.now) (get_or-mem e.taken.sites.now k d h))).1 in
-      omega (arith, out, output_at e.taken.row.now site, s.few)
-
+module _ (e : Evening) (v : Evaluates e) where
   pub circuit_of : (c : Circuit) → c.taken ≡ e.taken → e.n ≤ length c.given.now → IsCircuit c
   circuit_of c same long =
       record {

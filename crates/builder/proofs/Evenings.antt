@@ -20,11 +20,12 @@ use Rattle.rounds.proofs.SettleSteps.{few_variables}
 use Rattle.rounds.proofs.SubstituteSteps.{inside_entries}
 use Rattle.rounds.proofs.RoundSteps.{all_inside, ended_last}
 use Rattle.taking.specs.Settled.{IsSettled}
-use Rattle.rules.specs.Calls.{rounds_in, stands_in, gates_in, bad_values}
+use Rattle.rules.specs.Calls.{rounds_in, stands_in, gates_in, listed, bad_values}
 use Rattle.gates.specs.TakenGates as Taken
-use Rattle.builder.specs.Evenings.{IsEvening, Sized, Evaluates}
+use Rattle.builder.specs.Evenings.{IsEvening, Evaluates}
+use Rattle.builder.specs.Builds.{listing_of}
 use Rattle.builder.specs.Values.{bad_in}
-use Rattle.builder.specs.declared.evening.Evening.{Evening}
+use Rattle.listing.specs.declared.evening.Evening.{Evening}
 
 -- The table that the rounds leave of one that the check accepts, with pins in range.
 module _ (n : ℕ) (t pins : List ℤ) (good : checked n t ≡ Ok tt) (in_range : list_all (λ x. not (out_of_range n x)) pins ≡ true) (r : ℕ) (st : List ℕ) (cs : List (List ℕ))
@@ -68,15 +69,6 @@ module _ (n : ℕ) (t pins : List ℤ) (good : checked n t ≡ Ok tt) (in_range 
 -- The evening of a table and pins.
 module _ (n : ℕ) (t pins : List ℤ) (good : checked n t ≡ Ok tt) (in_range : list_all (λ x. not (out_of_range n x)) pins ≡ true) (e : Evening)
     (is : IsEvening n (outcome n (pinned t pins)) e) where
-  pub sized : Sized e
-  sized =
-      record {
-        few = rw is.variables (few_variables n t good);
-        gates = rw is.variables is.few;
-        inside = rw is.variables (row_inside n t pins good in_range _ _ _ is.comes e.taken.row.now refl is.ended);
-        standing = rw is.variables (stands_inside n t pins good in_range _ _ _ is.comes);
-      }
-
   pub evaluates : Evaluates e
   evaluates =
       record {
@@ -101,3 +93,7 @@ module _ (n : ℕ) (o : Outcome) (e : Evening) (is : IsEvening n o e) where
   pub bad_are : (given : List ℕ) → bad_values n o given ≡ bad_in e given
   unfolding bad_values
   bad_are given = rw (stands_are, gates_are, is.variables) refl
+
+  pub listed_is : listed n o ≡ listing_of e
+  unfolding listed
+  listed_is = rw is.comes (rw (is.variables, is.gates) refl)

@@ -13,7 +13,7 @@ use Rattle.rules.specs.declared.book.Book.{Book}
 use Rattle.gates.specs.TakenGates as Taken
 use Rattle.builder.specs.Evenings.{IsEvening, tests}
 use Rattle.builder.specs.Values.{bad_in}
-use Rattle.builder.specs.declared.evening.Evening.{Evening}
+use Rattle.listing.specs.declared.evening.Evening.{Evening}
 use Rattle.builder.proofs.Tests.{whole, tests_pass}
 use Rattle.builder.proofs.Evenings.{gates_are, stands_are, bad_are}
 

@@ -13,8 +13,8 @@ use Rattle.rules.specs.Calls.{work_short, held_bad, contradiction, outcome_of}
 use Rattle.rules.specs.declared.book.Book.{Book}
 use Rattle.calls.proofs.Openings.{opening, opened, room_of}
 use Rattle.builder.specs.Evenings.{Comes, Begins, tests}
-use Rattle.builder.proofs.Evenings.{sized, evaluates}
-use Rattle.builder.specs.declared.evening.Evening.{Evening}
+use Rattle.builder.proofs.Evenings.{evaluates}
+use Rattle.listing.specs.declared.evening.Evening.{Evening}
 
 last : (v : Verdict) → result_and v (Ok (tt {0})) ≡ v
 last (Ok _) = refl
@@ -50,7 +50,7 @@ module _ (n : ℕ) (t : List ℤ) (b : Book) (work : ℕ) where
       pub comes_begins : (answer : Result Evening Refusal) → Comes n (outcome n (pinned t (in_force b))) answer → Begins n t b work answer
       unfolding outcome_of contradiction
       comes_begins (Ok e) is =
-          (tests_decided ∙ ap contradiction is.comes, is, sized n t (in_force b) good pins_fit e is, evaluates n t (in_force b) good pins_fit e is)
+          (tests_decided ∙ ap contradiction is.comes, is, evaluates n t (in_force b) good pins_fit e is)
       comes_begins (Err why) h = tests_decided ∙ h
 
   -- The whole of a call's tests. more: those behind the evening.

@@ -1,8 +1,6 @@
 -- What an evening is: what the rounds over a table with its pins leave, with the gates taken from it.
 use Rattle.std.specs.Prelude.{ℕ, ◌≡◌, ◌≤◌, List, [], ◌∷◌, ℤ, length, Result, Ok, Err}
 use mathlib.Core.List.{Memᴰ}
-use Rattle.std.specs.List.{All}
-use Rattle.tables.specs.Literal.{literal, var}
 use Rattle.tables.specs.Clause.{clauses}
 use Rattle.tables.specs.Numbers.{Verdict, first_refusal}
 use Rattle.tables.specs.declared.numbers.Refusal.{Refusal}
@@ -15,7 +13,7 @@ use Rattle.rules.specs.Calls.{work_short, held_bad, contradiction, outcome_of}
 use Rattle.rules.specs.declared.book.Book.{Book}
 use Rattle.rounds.specs.Ended.{Ended}
 use Rattle.gates.specs.TakenGates.{gates_in}
-use Rattle.builder.specs.declared.evening.Evening.{Evening}
+use Rattle.listing.specs.declared.evening.Evening.{Evening}
 
 -- o: the outcome of the rounds over n variables.
 pub record IsEvening (n : ℕ) (o : Outcome) (e : Evening) : Type 0 where
@@ -31,13 +29,6 @@ abbrev pub Comes : ℕ → Outcome → Result Evening Refusal → Type 0
 Comes n o (Ok e) = IsEvening n o e
 Comes n o (Err why) = contradiction o ≡ Err why
 
--- Its sizes: few variables, no more gates than these, and each entry of the settled table and what each variable stands for of one of them.
-pub record Sized (e : Evening) : Type 0 where
-  pub few : e.n ≤ 1024
-  pub gates : length e.taken.sites.now ≤ e.n
-  pub inside : All (λ x. var (literal x) ≤ e.n) e.taken.row.now
-  pub standing : All (λ l. var l ≤ e.n) e.stands.now
-
 -- Its gates stand in an order of evaluation, and their outputs are variables.
 pub record Evaluates (e : Evening) : Type 0 where
   pub ordered : Ordered (gates_in e.taken)
@@ -49,5 +40,5 @@ tests n t b work = work_short work ∷ book_long b ∷ held_bad n b ∷ contradi
 
 -- They are passed, and there is an evening; or one refuses.
 abbrev pub Begins : ℕ → List ℤ → Book → ℕ → Result Evening Refusal → Type 0
-Begins n t b work (Ok e) = (first_refusal (tests n t b work) ≡ Ok tt) × IsEvening n (outcome_of n t b) e × Sized e × Evaluates e
+Begins n t b work (Ok e) = (first_refusal (tests n t b work) ≡ Ok tt) × IsEvening n (outcome_of n t b) e × Evaluates e
 Begins n t b work (Err why) = first_refusal (tests n t b work) ≡ Err why

@@ -6,13 +6,14 @@ ghost use Rattle.tables.specs.declared.numbers.Refusal.TheVariants.{OutOfRange, 
 ghost use Rattle.rules.specs.Ask.{asked};
 ghost use Rattle.rules.specs.Calls.{bad_value, ask, wiped};
 ghost use Rattle.gates.specs.TakenGates.{gates_in};
-ghost use Rattle.builder.specs.Evenings.{Sized, Evaluates};
+ghost use Rattle.builder.specs.Evenings.{Evaluates};
 ghost use Rattle.builder.specs.Values.{bad_in};
 
-use crate::evening::{Evening, begin_evening};
+use crate::evening::begin_evening;
 use crate::values::check_values;
 use filling::ask::Circuit;
 use gates::site::Site;
+use listing::evening::Evening;
 use rules::book::Book;
 use tables::check::check;
 use tables::numbers::Refusal;
@@ -31,9 +32,8 @@ fn enough_given(n: usize, given: &[u8]) -> Result<(), Refusal>
 }
 
 /// Asks an evening for one of its variables.
-#[tactic(auto, using(crate::proofs::Asks::outputs_few), unfolding(tables::specs::Numbers::first_refusal))]
+#[tactic(auto, unfolding(tables::specs::Numbers::first_refusal))]
 fn ask_evening(evening: &Evening, given: &[u8], variable: usize) -> Result<bool, Refusal>
-    requires sized { Sized evening.now }
     requires evaluates { Evaluates evening.now }
     requires variable { variable ≤ evening.now.n }
     ensures { result ≡ result_and (first_refusal (refuse (ltb (length given.now) evening.now.n) (ShortBuffer evening.now.n) ∷ bad_value (bad_in evening.now given.now) ∷ []))

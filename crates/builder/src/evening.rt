@@ -1,4 +1,4 @@
-// An evening: a table that is settled with its pins, and the gates taken from it. Build, fill and ask begin with it.
+// What build, fill and ask begin with: the table is settled with its pins, and the gates are taken.
 ghost use Rattle.std.specs.Prelude.{◌≡◌, ◌+◌, ◌≤◌, Ok, true, not, length};
 ghost use Rattle.std.specs.List.{list_all};
 ghost use Rattle.tables.specs.Check.{checked};
@@ -8,24 +8,11 @@ ghost use Rattle.builder.specs.Evenings.{Comes, Begins};
 
 use calls::opening::open_book;
 use gates::site::Site;
-use gates::taken::Taken;
+use listing::evening::Evening;
 use rounds::settle::settle;
 use rules::book::Book;
 use tables::numbers::Refusal;
 use taking::take::take_gates;
-
-/// A settled evening.
-#[derive(Clone, Copy)]
-pub struct Evening<'a> {
-    /// The variables are numbered from 1 to this.
-    pub n: usize,
-    /// The rounds run.
-    pub rounds: usize,
-    /// What each variable stands for.
-    pub stands: &'a [u16],
-    /// The gates taken from the settled table.
-    pub taken: Taken<'a>,
-}
 
 /// Settles a table with its pins in the work buffer, and takes the gates of the settled table.
 pub fn settle_evening<'a>(

@@ -6,12 +6,12 @@ ghost use Rattle.texts.specs.Buffer.{leaves};
 ghost use Rattle.rules.specs.Fill.{filled};
 ghost use Rattle.rules.specs.Calls.{bad_value, fill_verdict, fill_values, wiped};
 ghost use Rattle.gates.specs.TakenGates.{gates_in};
-ghost use Rattle.builder.specs.Evenings.{Sized};
 ghost use Rattle.builder.specs.Values.{bad_in};
 
-use crate::evening::{Evening, begin_evening};
+use crate::evening::begin_evening;
 use crate::values::check_values;
 use gates::site::Site;
+use listing::evening::Evening;
 use rules::book::Book;
 use tables::check::check;
 use tables::numbers::Refusal;
@@ -32,7 +32,6 @@ fn room_for_values(n: usize, given: &[u8], values: &[u8]) -> Result<(), Refusal>
 /// Fills in an evening's variables.
 #[tactic(auto, using(crate::proofs::Fills::filled_front), unfolding(tables::specs::Numbers::first_refusal, texts::specs::Buffer::leaves))]
 fn fill_evening(evening: &Evening, given: &[u8], values: &mut [u8]) -> Result<(), Refusal>
-    requires { Sized evening.now }
     ensures is { result ≡ first_refusal (refuse (ltb (length given.now) evening.now.n || ltb (length values.old) evening.now.n) (ShortBuffer evening.now.n) ∷ bad_value (bad_in evening.now given.now) ∷ []) }
     ensures values { values.new ≡ leaves result (filled evening.now.n evening.now.stands.now (gates_in evening.now.taken) given.now) values.old }
 {

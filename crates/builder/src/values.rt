@@ -7,8 +7,8 @@ ghost use Rattle.rules.specs.Calls.{bad_value};
 ghost use Rattle.gates.specs.TakenGates.{gates_in};
 ghost use Rattle.builder.specs.Values.{is_bad, bad_in};
 
-use crate::evening::Evening;
 use gates::outputs::{is_free, mark_outputs};
+use listing::evening::Evening;
 use tables::numbers::Refusal;
 use tables::sizes::VARIABLE_NUMBERS;
 
@@ -34,7 +34,6 @@ fn is_bad(evening: &Evening, outputs: &[u8], given: &[u8], variable: usize) -> b
 /// Refuses the lowest free variable whose value is neither 0 nor 1.
 #[tactic(auto, using(crate::proofs::BadValues::none_bad, crate::proofs::BadValues::first_bad))]
 pub fn check_values(evening: &Evening, given: &[u8]) -> Result<(), Refusal>
-    requires few { evening.now.n ≤ 1024 }
     ensures { result ≡ bad_value (bad_in evening.now given.now) }
 {
     let mut outputs = [0; VARIABLE_NUMBERS];
