@@ -1,0 +1,4 @@
+-- Lemmas of the listing.
+pub mod Walks
+pub mod GateSteps
+pub mod Sizes

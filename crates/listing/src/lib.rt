@@ -1,0 +1,9 @@
+// The listing of a settled evening: one record a line.
+#![tactic(auto)]
+
+pub mod clause_lines;
+pub mod evening;
+pub mod fields;
+pub mod gate_lines;
+pub mod survey;
+pub mod variables;
