@@ -1,5 +1,5 @@
 -- The lines of gates, step by step.
-use Rattle.std.proofs.Common.{◌≡◌, ◌∙◌, refl, sym, ap, ℕ, zero, suc, ◌<◌, ◌≤◌, ◌&&◌, Bool, true, false, cond, not, eqb, ℤ, List, [], ◌∷◌, ◌++◌, map, filter, length, get_or, ⊎_elim, arith, append-nil, eq-eqb, ne_eqb, slice_range}
+use Rattle.std.proofs.Common.{◌≡◌, ◌∙◌, refl, sym, ap, ℕ, suc, ◌<◌, ◌&&◌, Bool, true, false, cond, not, eqb, ℤ, List, [], ◌∷◌, ◌++◌, map, filter, length, get_or, arith, append-nil, eq-eqb, ne_eqb, slice_range}
 use mathlib.Core.List.Memᴰ
 use mathlib.Core.List.{Memᴰ}
 use Rattle.std.specs.List.{flat_map, range_with_len}
@@ -10,7 +10,7 @@ use Rattle.rules.specs.Circuit.{levels}
 use Rattle.rules.specs.Listing.{input_field, line_g, gates_at, lines_g}
 use Rattle.texts.specs.Laying.{Laid, lay}
 use Rattle.gates.specs.declared.site.Site.{Site}
-use Rattle.gates.specs.Sites.{entries_of, anchor_of, gate_of, gates_of}
+use Rattle.gates.specs.Sites.{entries_of, gate_of, gates_of}
 use Rattle.gates.specs.Inputs.{input, inputs}
 use Rattle.gates.proofs.SiteLaws.{output_at}
 use Rattle.gates.proofs.SiteGates.{inputs_are}
@@ -55,7 +55,7 @@ one_kept row v [] a s i e = absurd (Memᴰ.not-nil i)
 one_kept row v (t ∷ sites) a s (Memᴰ.head q) e =
     let here : var t.output ≡ v = ap (λ (x : Site). var x.output) (sym q) ∙ e in
     let others : filter (λ g. eqb g.output v && true) (gates_of row sites) ≡ [] =
-        none_kept row v true sites (λ u i f. apart_from t sites (λ j d k. a 0 (suc j) d (omega arith) (omega arith)) u i (here ∙ f)) in
+    none_kept row v true sites (λ u i f. apart_from t sites (λ j d k. a 0 (suc j) d (omega arith) (omega arith)) u i (here ∙ f)) in
     rw (output_at row t, eq-eqb (var t.output) v here, others, q) refl
 one_kept row v (t ∷ sites) a s (Memᴰ.tail i) e =
     let apart : var t.output ≡ v → ⊥ = λ f. apart_from t sites (λ j d k. a 0 (suc j) d (omega arith) (omega arith)) s i (f ∙ sym e) in

@@ -2,3 +2,4 @@
 pub mod Walks
 pub mod GateSteps
 pub mod Sizes
+pub mod Outputs

@@ -1,5 +1,5 @@
 // The gates taken, looked over before the listing is laid.
-ghost use Rattle.std.specs.Prelude.{◌≡◌, ◌≤◌, ℕ};
+ghost use Rattle.std.specs.Prelude.{◌≡◌, ℕ};
 ghost use Rattle.rules.specs.Forced.{marked};
 ghost use Rattle.rules.specs.Taking.{is_output};
 ghost use Rattle.rules.specs.Circuit;
@@ -15,7 +15,7 @@ pub struct Survey<'a> {
     pub outputs: &'a [u8],
     pub levels: &'a [u16],
     pub places: &'a [u16],
-    ghost marked: { (v : ℕ) → v ≤ evening.n → marked outputs.now v ≡ is_output (gates_of evening.taken.row.now evening.taken.sites.now) v },
+    ghost marked: { (v : ℕ) → marked outputs.now v ≡ is_output (gates_of evening.taken.row.now evening.taken.sites.now) v },
     ghost levelled: { levels.now ≡ Circuit.levels evening.n (gates_of evening.taken.row.now evening.taken.sites.now) },
     ghost placed: { IsPlaced evening.taken.sites.now places.now },
 }

@@ -2,10 +2,14 @@
 ghost use Rattle.std.specs.Prelude.{◌≡◌, ◌*◌, ◌≤◌, cond, [], filter, length};
 ghost use Rattle.std.specs.List.{flat_map, range_with_len};
 ghost use Rattle.rules.specs.Pairs.{fixed, linked};
-ghost use Rattle.rules.specs.Listing.{line_f, line_l};
+ghost use Rattle.rules.specs.Circuit.{free};
+ghost use Rattle.rules.specs.Listing.{line_f, line_l, line_v};
 ghost use Rattle.texts.specs.Laying.{laid, lay};
+ghost use Rattle.gates.specs.TakenGates.{gates_in};
 
 use crate::fields::{put_number_field, put_numbers, put_signed_field};
+use crate::survey::Survey;
+use gates::outputs::is_free;
 use rules::standing::stands_for;
 use texts::pieces::Laying;
 
@@ -48,6 +52,24 @@ pub fn count_linked(stands: &[u16], n: usize) -> usize
 {
     (1..n + 1)
         .filter(|&variable| is_linked(stands, variable))
+        .count()
+}
+
+/// Whether a variable is free.
+fn is_free_in(survey: &Survey, variable: usize) -> bool
+    ensures { let e = survey.now.evening in
+        result ≡ free e.stands.now (gates_in e.taken) variable }
+{
+    is_free(survey.evening.stands, survey.outputs, variable)
+}
+
+/// How many variables are free.
+pub fn count_free(survey: &Survey) -> usize
+    ensures { let e = survey.now.evening in
+        result ≡ length (filter (free e.stands.now (gates_in e.taken)) (range_with_len 1 e.n)) }
+{
+    (1..survey.evening.n + 1)
+        .filter(|&variable| is_free_in(survey, variable))
         .count()
 }
 
@@ -102,5 +124,26 @@ pub fn put_lines_l(laying: &mut Laying, stands: &[u16], n: usize)
 {
     for variable in 1..=n {
         put_linked(laying, stands, variable);
+    }
+}
+
+/// Lays the V line of a variable, if it is free.
+#[tactic(auto, using(texts::proofs::LaySteps::laid_none), unfolding(rules::specs::Listing::line_v, rules::specs::Listing::line))]
+fn put_free(laying: &mut Laying, survey: &Survey, variable: usize)
+    ensures { let e = survey.now.evening in
+        laid laying.new ≡ lay (laid laying.old) (cond (free e.stands.now (gates_in e.taken) variable) (line_v variable) []) }
+{
+    if is_free_in(survey, variable) {
+        put_numbers(laying, b"V", &[variable]);
+    }
+}
+
+/// Lays the V lines.
+pub fn put_lines_v(laying: &mut Laying, survey: &Survey)
+    ensures { let e = survey.now.evening in
+        laid laying.new ≡ lay (laid laying.old) (flat_map line_v (filter (free e.stands.now (gates_in e.taken)) (range_with_len 1 e.n))) }
+{
+    for variable in 1..=survey.evening.n {
+        put_free(laying, survey, variable);
     }
 }

@@ -1,6 +1,6 @@
 -- The clauses that are in no pattern.
-use Rattle.std.proofs.Common.{◌≡◌, ◌∙◌, ap, not, map, length, rules, tests, arith, inl}
-use Rattle.std.proofs.lemmas.Iterator.Consumers.{YieldsList-at, YieldsList-from_filter, count_from_yields_List}
+use Rattle.std.proofs.Common.{◌≡◌, ◌∙◌, ap, not, rules, tests, arith, inl}
+use Rattle.std.proofs.lemmas.Iterator.Consumers.{YieldsList-from_filter, count_from_yields_List}
 use Rattle.std.specs.Iterator.Adapters.{filter_source}
 use Rattle.tables.specs.declared.rows.Clauses.{Clauses}
 use Rattle.tables.proofs.EndedClauses.{clauses_given}

@@ -1,6 +1,5 @@
 -- One literal of the anchor more.
-use Rattle.std.proofs.Common.{◌≡◌, ◌∙◌, sym, ap, pos, get_or, arith, rules}
-use Rattle.tables.specs.Literal.{literal}
+use Rattle.std.proofs.Common.{◌∙◌, sym, ap, pos, rules}
 use Rattle.texts.specs.Laying.{laid, lay}
 use Rattle.listing.proofs.Walks.{row_on, row_ends}
 use Rattle.listing.proofs.GateSteps.{other_field, inputs_fields}

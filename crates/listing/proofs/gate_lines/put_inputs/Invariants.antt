@@ -1,5 +1,5 @@
 -- The literals of the anchor that are left are still to be looked at.
-use Rattle.std.proofs.Common.{◌≡◌, ℤ, map, drop}
+use Rattle.std.proofs.Common.{◌≡◌, map, drop}
 use Rattle.std.specs.List.{flat_map}
 use Rattle.rules.specs.Listing.{input_field}
 use Rattle.texts.specs.Laying.{laid, lay}

@@ -1,6 +1,6 @@
 -- One variable more.
-use Rattle.std.proofs.Common.{◌≡◌, ◌∙◌, sym, length, arith}
-use Rattle.std.specs.List.{flat_map, range_with_len}
+use Rattle.std.proofs.Common.{◌∙◌, sym, arith}
+use Rattle.std.specs.List.{flat_map}
 use Rattle.texts.specs.Laying.{laid}
 use Rattle.rules.specs.Listing.{line_g, gates_at}
 use Rattle.gates.specs.TakenGates.{gates_in}

@@ -1,5 +1,5 @@
 -- What is left is still to be laid.
-use Rattle.std.proofs.Common.{◌≡◌, ◌+◌, ◌-◌, length}
+use Rattle.std.proofs.Common.{◌≡◌, ◌+◌, ◌-◌}
 use Rattle.std.specs.List.{flat_map, range_with_len}
 use Rattle.texts.specs.Laying.{laid, lay}
 use Rattle.rules.specs.Listing.{line_g, gates_at}

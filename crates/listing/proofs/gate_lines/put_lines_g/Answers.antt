@@ -1,5 +1,5 @@
 -- One level more.
-use Rattle.std.proofs.Common.{◌≡◌, ◌∙◌, sym, ap, ℕ, ◌+◌, length, arith}
+use Rattle.std.proofs.Common.{◌∙◌, sym, ap, ℕ, ◌+◌, length, arith}
 use Rattle.std.specs.List.{flat_map, range_with_len}
 use Rattle.texts.specs.Laying.{laid, lay}
 use Rattle.rules.specs.Listing.{line_g, gates_at}
@@ -29,5 +29,5 @@ returns-2 c =
     let each = λ (k : ℕ). flat_map (λ v. flat_map (line_g k) (gates_at e.n (gates_in e.taken) k v)) (range_with_len 1 e.n) in
     sym
     (c.loop-level.invariant ∙ range_on each _ _ k (length e.taken.sites.now) (omega arith) c.put_level.ensures
-      ∙ range_ends each _ (k + 1) (length e.taken.sites.now) (omega arith))
+    ∙ range_ends each _ (k + 1) (length e.taken.sites.now) (omega arith))
     ∙ ap (lay (laid c.args.laying.now)) (levels_of e.n e.taken.row.now e.taken.sites.now)

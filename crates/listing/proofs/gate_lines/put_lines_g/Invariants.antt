@@ -2,7 +2,7 @@
 use Rattle.std.proofs.Common.{◌≡◌, ◌+◌, ◌-◌, length}
 use Rattle.std.specs.List.{flat_map, range_with_len}
 use Rattle.texts.specs.Laying.{laid, lay}
-use Rattle.rules.specs.Listing.{line_g, gates_at, lines_g}
+use Rattle.rules.specs.Listing.{line_g, gates_at}
 use Rattle.gates.specs.TakenGates.{gates_in}
 use Rattle.listing.proofs.gate_lines.put_lines_g.Given as goal
 

@@ -1,5 +1,5 @@
 -- One variable more is done.
-use Rattle.std.proofs.Common.{◌≡◌, ◌∙◌, sym, cond, [], ℕ, List, arith}
+use Rattle.std.proofs.Common.{◌∙◌, sym, cond, [], arith}
 use Rattle.texts.specs.Laying.{laid}
 use Rattle.rules.specs.Pairs.{linked}
 use Rattle.rules.specs.Listing.{line_l}
