@@ -1,0 +1,5 @@
+-- Lemmas of the listing.
+pub mod Walks
+pub mod GateSteps
+pub mod Sizes
+pub mod Outputs
