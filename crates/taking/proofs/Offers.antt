@@ -1,25 +1,17 @@
 -- One gate is offered: it is not allowed, and nothing changes; or it is, and is put in its place.
-use Rattle.std.proofs.Common.{◌≡◌, ◌∙◌, refl, sym, ap, ℕ, ◌+◌, ◌-◌, ◌<◌, ◌≤◌, Bool, true, false, cond, ◌||◌, List, [], ◌∷◌, ◌++◌, length, take, ℤ, arith}
+use Rattle.std.proofs.Common.{◌≡◌, ◌∙◌, refl, sym, ap, ℕ, ◌<◌, ◌≤◌, Bool, true, false, cond, ◌||◌, List, [], ◌∷◌, ◌++◌, length, take, arith}
 use Rattle.std.proofs.lemmas.List.{length-map, length-take}
 use Rattle.std.proofs.lemmas.List.Folds.{list_any-append}
 use Rattle.std.specs.List.{list_any}
 use Rattle.std.proofs.Math.Logic.{∥∥₁_map₂}
 use Rattle.rules.specs.Patterns.{Gate}
-use Rattle.rules.specs.Taking.{allowed, dependents, place, take_first}
+use Rattle.rules.specs.Taking.{allowed, place, take_first}
 use Rattle.circuits.proofs.Taken.{Valid, Taken, place_taken}
-use Rattle.gates.specs.declared.site.Site.{Site}
-use Rattle.gates.specs.Sites.{gate_of, gates_of}
+use Rattle.gates.specs.Sites.{gate_of}
 use Rattle.taking.specs.declared.offer.Taking.{Taking}
 use Rattle.taking.specs.Offered.{Offered, row, table, gates, may}
 use Rattle.taking.proofs.Room.{room}
 use Rattle.taking.proofs.TakeSteps.{first_turn, first_none, first_append}
-
--- Marks for the variables 0 to n.
-pub allowed_is : (n k : ℕ) (row : List ℤ) (xs ys : List Site) (g : Gate) (b : Bool) → k ≡ n + 1 → xs ≡ ys → b ≡ allowed (k - 1) (gates_of row xs) g → allowed n (gates_of row ys) g ≡ b
-allowed_is n k row xs ys g b e f h = let m : n ≡ k - 1 = omega arith in rw (m, ← f) (sym h)
-
-pub marks_are : (n k : ℕ) (row : List ℤ) (xs ys : List Site) (m : List ℕ) (o : ℕ) → k ≡ n + 1 → xs ≡ ys → m ≡ dependents (k - 1) (gates_of row xs) o → m ≡ dependents n (gates_of row ys) o
-marks_are n k row xs ys m o e f h = let q : n ≡ k - 1 = omega arith in rw (q, ← f) h
 
 any_one : (b : Bool) → b ≡ (b || false)
 any_one true = refl

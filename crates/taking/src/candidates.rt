@@ -14,6 +14,9 @@ use patterns::andform::and_form_found;
 use patterns::parity::parity_found;
 use tables::literal::{literal, var};
 
+/// The least width of an anchor.
+const LEAST_WIDTH: usize = 3;
+
 impl Taking<'_, '_> {
     /// Offers the anchor's parity group, if it is found, with each variable as the output in turn, until it is allowed.
     fn offer_group(&mut self, anchor: Anchor) -> bool
@@ -73,7 +76,7 @@ impl Taking<'_, '_> {
         ensures gates { gates self.new ≡ rules.take_at (may self.old) self.old.n (table self.old) (gates self.old) (literals (row self.old) anchor) }
     {
         let index = self.index;
-        if anchor.entries(index.row).len() < 3 {
+        if anchor.entries(index.row).len() < LEAST_WIDTH {
             return;
         }
         if self.offer_group(anchor) {

@@ -6,10 +6,12 @@ ghost use Rattle.circuits.proofs.Taken;
 ghost use Rattle.gates.specs.Sites.{Within, gates_of};
 ghost use Rattle.taking.specs.Settled.{IsSettled};
 
-use crate::depends::is_allowed;
+use crate::depends::{dependents, is_touched};
 use crate::place::place;
+use gates::outputs::is_output;
 use gates::site::Site;
 use patterns::index::Index;
+use tables::literal::var;
 use tables::sizes::MOST_VARIABLES;
 
 /// The gates taken so far from a settled table of the variables 1 to n, in an order of evaluation: the first `count` sites.
@@ -29,12 +31,15 @@ pub struct Taking<'a, 'i> {
 }
 
 impl<'a, 'i> Taking<'a, 'i> {
-    ghost use Rattle.std.specs.Prelude.{◌≡◌, ◌≤◌, [], ◌∷◌, length, take};
+    ghost use Rattle.std.specs.Prelude.{◌≡◌, ◌+◌, ◌≤◌, [], ◌∷◌, length, take};
+    ghost use Rattle.std.specs.Bool.{OnTrue};
+    ghost use Rattle.tables.specs.Literal.{var};
     ghost use Rattle.tables.specs.Clause.{clauses};
+    ghost use Rattle.rules.specs.Taking.{dependents};
     ghost use Rattle.circuits.proofs.Taken.{Valid};
     ghost use Rattle.gates.specs.Sites.{Within, gate_of};
     ghost use Rattle.taking.specs.Settled.{IsSettled};
-    ghost use Rattle.taking.specs.Offered.{Offered, row, table, gates};
+    ghost use Rattle.taking.specs.Offered.{Offered, row, table, gates, may};
 
     /// No gate yet: the sites are room for as many as there are variables.
     pub fn start(n: usize, index: Index<'i>, sites: &'a mut [Site]) -> Taking<'a, 'i>
@@ -60,6 +65,23 @@ impl<'a, 'i> Taking<'a, 'i> {
         &self.sites[..self.count]
     }
 
+    /// Whether a gate is allowed: its output is no output yet, and no input depends on it through the gates taken. Where it is
+    /// allowed the marks are what depends on its output, as its place among the gates needs them.
+    #[tactic(auto, using(gates::proofs::SiteLaws::output_at), unfolding(rules::specs::Taking::allowed))]
+    fn is_allowed(&self, site: Site, marks: &mut [u8]) -> bool
+        requires within { Within (row self.now) site }
+        requires marks { length marks.old ≡ self.now.n + 1 }
+        ensures is { result ≡ may self.now (gates self.now) (gate_of (row self.now) site) }
+        ensures walked { OnTrue result (marks.new ≡ dependents self.now.n (gates self.now) (var site.output)) }
+    {
+        let output = var(site.output);
+        if is_output(self.taken(), output) {
+            return false;
+        }
+        dependents(self.index.row, self.taken(), output, marks);
+        !is_touched(self.index.row, site, marks)
+    }
+
     /// Puts a gate in its place among those taken if it is allowed; whether it is.
     pub fn offer(&mut self, site: Site) -> bool
         requires within { Within (row self.old) site }
@@ -68,7 +90,7 @@ impl<'a, 'i> Taking<'a, 'i> {
     {
         let mut marks = [0; MOST_VARIABLES + 1];
         let (marks, _) = marks.split_at_mut(self.n + 1);
-        if !is_allowed(self.index.row, self.taken(), site, marks) {
+        if !self.is_allowed(site, marks) {
             return false;
         }
         place(self.sites, self.count, site, marks);

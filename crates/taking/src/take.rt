@@ -12,6 +12,7 @@ use crate::offer::Taking;
 use gates::site::Site;
 use gates::taken::Taken;
 use patterns::index::{Index, KEYS};
+use tables::rows::clauses_of;
 use tables::sizes::MOST_ENTRIES;
 
 impl Taking<'_, '_> {
@@ -23,11 +24,10 @@ impl Taking<'_, '_> {
     {
         let row = self.index.row;
         let mut start = 0;
-        for (end, &entry) in row.iter().enumerate() {
-            if entry == 0 {
-                self.take_at(Anchor { start, end });
-                start = end + 1;
-            }
+        for clause in clauses_of(row) {
+            let end = start + clause.len();
+            self.take_at(Anchor { start, end });
+            start = end + 1;
         }
     }
 }

@@ -1,31 +1,26 @@
 -- The gate is not allowed; or it is, there is room for it, and it is in its place.
-use Rattle.std.proofs.Common.{◌≡◌, ◌∙◌, refl, sym, subst, ◌+◌, take, length, arith}
+use Rattle.std.proofs.Common.{◌∙◌, refl, sym, subst, take, arith}
 use Rattle.std.specs.List.{All}
 use Rattle.gates.specs.Sites.{Within, gate_of}
 use Rattle.taking.specs.Offered.{row, table, gates}
 use Rattle.taking.proofs.Placed.{all_placed}
-use Rattle.taking.proofs.Offers.{allowed_is, marks_are, one_passed, one_taken, next_fits, still_taken}
+use Rattle.taking.proofs.Offers.{one_passed, one_taken, next_fits, still_taken}
 use Rattle.taking.proofs.offer.Taking.offer.Goals as goal
 
 pub returns-then-not-is_allowed : goal.returns-then-not-is_allowed
 returns-then-not-is_allowed c =
     let t = c.args.self.now in
-    let k : length c.split_at_mut-marks.result.0.now ≡ t.n + 1 = omega (arith, c.split_at_mut-marks.ensures.front_len) in
-    one_passed (gate_of (row t) c.args.site) t (allowed_is t.n _ (row t) _ _ _ _ k c.taken.ensures (sym c.if-not-is_allowed.true ∙ c.is_allowed.ensures.is))
+    one_passed (gate_of (row t) c.args.site) t (sym c.is_allowed.ensures.is ∙ c.if-not-is_allowed.true)
 
 pub place-requires-clause-room : goal.place-requires-clause-room
 place-requires-clause-room c =
     let t = c.args.self.now in
-    let k : length c.split_at_mut-marks.result.0.now ≡ t.n + 1 = omega (arith, c.split_at_mut-marks.ensures.front_len) in
-    let ok = allowed_is t.n _ (row t) _ _ _ _ k c.taken.ensures (sym c.if-not-is_allowed.false ∙ c.is_allowed.ensures.is) in
-    omega (arith, next_fits t (gate_of (row t) c.args.site) c.requires.valid ok)
+    omega (arith, next_fits t (gate_of (row t) c.args.site) c.requires.valid (sym c.is_allowed.ensures.is ∙ c.if-not-is_allowed.false))
 
 pub invariant_of-self-clause-few : goal.invariant_of-self-clause-few
 invariant_of-self-clause-few c =
     let t = c.args.self.now in
-    let k : length c.split_at_mut-marks.result.0.now ≡ t.n + 1 = omega (arith, c.split_at_mut-marks.ensures.front_len) in
-    let ok = allowed_is t.n _ (row t) _ _ _ _ k c.taken.ensures (sym c.if-not-is_allowed.false ∙ c.is_allowed.ensures.is) in
-    omega (arith, next_fits t (gate_of (row t) c.args.site) c.requires.valid ok)
+    omega (arith, next_fits t (gate_of (row t) c.args.site) c.requires.valid (sym c.is_allowed.ensures.is ∙ c.if-not-is_allowed.false))
 
 pub invariant_of-self-clause-within : goal.invariant_of-self-clause-within
 invariant_of-self-clause-within c =
@@ -35,15 +30,10 @@ invariant_of-self-clause-within c =
 pub invariant_of-self-clause-taken : goal.invariant_of-self-clause-taken
 invariant_of-self-clause-taken c =
     let t = c.args.self.now in
-    let k : length c.split_at_mut-marks.result.0.now ≡ t.n + 1 = omega (arith, c.split_at_mut-marks.ensures.front_len) in
-    let ok = allowed_is t.n _ (row t) _ _ _ _ k c.taken.ensures (sym c.if-not-is_allowed.false ∙ c.is_allowed.ensures.is) in
-    still_taken t.n (table t) (gates t) _ (gate_of (row t) c.args.site) t.taken c.requires.valid ok
-    (c.place.ensures.order (row t) t.n (marks_are t.n _ (row t) _ _ _ _ k c.taken.ensures c.if-not-is_allowed.ensures.walked))
+    still_taken t.n (table t) (gates t) _ (gate_of (row t) c.args.site) t.taken c.requires.valid (sym c.is_allowed.ensures.is ∙ c.if-not-is_allowed.false)
+    (c.place.ensures.order (row t) t.n c.if-not-is_allowed.ensures.walked)
 
 pub returns : goal.returns
 returns c =
     let t = c.args.self.now in
-    let k : length c.split_at_mut-marks.result.0.now ≡ t.n + 1 = omega (arith, c.split_at_mut-marks.ensures.front_len) in
-    let ok = allowed_is t.n _ (row t) _ _ _ _ k c.taken.ensures (sym c.if-not-is_allowed.false ∙ c.is_allowed.ensures.is) in
-    one_taken (gate_of (row t) c.args.site) t _ refl refl ok
-    (c.place.ensures.order (row t) t.n (marks_are t.n _ (row t) _ _ _ _ k c.taken.ensures c.if-not-is_allowed.ensures.walked))
+    one_taken (gate_of (row t) c.args.site) t _ refl refl (sym c.is_allowed.ensures.is ∙ c.if-not-is_allowed.false) (c.place.ensures.order (row t) t.n c.if-not-is_allowed.ensures.walked)
