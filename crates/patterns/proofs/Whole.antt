@@ -76,16 +76,6 @@ whole_row row c h k =
     let p : 0 < length (map literal c) = rw (n) h in
     rw (one_shl (length c - 1) 32 (omega arith), ← n) (whole_ones (clauses row) (map literal c) p)
 
-xor_beq : (p q : Bool) → not (xor p q) ≡ beq p q
-unfolding xor
-xor_beq p q = search rules
-
-pub group_by_odd : (c d : List ℕ) → same (map var d) (map var c) ≡ true → beq (odd d) (odd c) ≡ among d (group c)
-group_by_odd c d h = sym (in_group c d ∙ rw (h) (xor_beq (odd d) (odd c)))
-
-pub other_vars : (c d : List ℕ) → same (map var d) (map var c) ≡ false → among d (group c) ≡ false
-other_vars c d h = in_group c d ∙ rw (h) refl
-
 pub first_of_none : (ds : List (List ℕ)) (c : List ℤ) → 0 < length c → same (first_of ds []) (map literal c) ≡ false
 unfolding first_of
 first_of_none ds [] h = absurd (omega arith)

@@ -10,31 +10,10 @@ ghost use Rattle.patterns.specs.Seen.{see, seen};
 
 use crate::index::{Index, key};
 use crate::signs::{is_odd, signs};
-use tables::clause::is_same;
-use tables::literal::{literal, var};
-
-/// Whether two entries are of one variable.
-fn is_of_variable(entry: i32, other: i32) -> bool
-    ensures { result ≡ eqb (var (literal entry)) (var (literal other)) }
-{
-    var(literal(entry)) == var(literal(other))
-}
-
-/// Whether two clauses are over the same variables, one by one.
-#[tactic(auto, using(crate::proofs::Same::vars_longer))]
-fn has_variables_of(clause: &[i32], anchor: &[i32]) -> bool
-    ensures is { result ≡ same (map var (map literal clause.now)) (map var (map literal anchor.now)) }
-    ensures long { OnTrue result (length clause.now ≡ length anchor.now) }
-{
-    clause.len() == anchor.len()
-        && clause
-            .iter()
-            .zip(anchor)
-            .all(|(&entry, &other)| is_of_variable(entry, other))
-}
+use tables::clause::{has_variables_of, is_same};
 
 /// Whether the clause is of the anchor's group: over the same variables, with as many negative literals, odd or even.
-#[tactic(auto, using(crate::proofs::Whole::group_by_odd, crate::proofs::Whole::other_vars))]
+#[tactic(auto, using(rules::proofs::Groups::group_by_odd, rules::proofs::Groups::other_vars))]
 fn is_alike(clause: &[i32], anchor: &[i32]) -> bool
     requires { length anchor.now ≤ 5 }
     ensures is { result ≡ among (map literal clause.now) (group (map literal anchor.now)) }
@@ -44,7 +23,7 @@ fn is_alike(clause: &[i32], anchor: &[i32]) -> bool
 }
 
 /// The patterns seen, with the clause's own if it is of the anchor's group.
-#[tactic(auto, unfolding(crate::specs::Seen::see), using(crate::proofs::Same::shifted))]
+#[tactic(auto, unfolding(crate::specs::Seen::see), using(crate::proofs::Ones::shifted))]
 fn see(clause: &[i32], anchor: &[i32], seen: u32) -> u32
     requires { length anchor.now ≤ 5 }
     ensures { result ≡ see (map literal anchor.now) seen (map literal clause.now) }
