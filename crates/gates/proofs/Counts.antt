@@ -52,8 +52,3 @@ module _ (a : ℕ → Bool) (ls : List ℕ) where
   counted (suc (suc (suc (suc (suc (suc zero)))))) h = sym (odd_count (λ l. a (var l)) ls)
   counted (suc (suc (suc (suc (suc (suc (suc zero))))))) h = sym (ap not (odd_count (λ l. a (var l)) ls))
   counted (suc (suc (suc (suc (suc (suc (suc (suc k)))))))) h = absurd (omega arith)
-
--- The signs from the number of negative literals.
-pub signs_counted : (ls : List ℕ) → signs ls ≡ cond (eqb (count_by neg ls) 0) 0 (cond (eqb (count_by neg ls) (length ls)) 1 2)
-unfolding signs
-signs_counted ls = rw (list_all-not neg ls, any_count neg ls, none_step (count_by neg ls), all_count neg ls)

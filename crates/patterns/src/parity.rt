@@ -1,40 +1,19 @@
 // Parity groups: whether a clause is its group's first in the row, and whether the row has all of the group.
-ghost use Rattle.std.specs.Prelude.{◌≡◌, ◌&&◌, ◌<◌, ◌≤◌, ℕ, true, eqb, map, length};
+ghost use Rattle.std.specs.Prelude.{◌≡◌, ◌&&◌, ◌<◌, ◌≤◌, ℕ, map, length};
 ghost use Rattle.std.specs.Bool.{OnTrue};
-ghost use Rattle.std.specs.List.{fold, list_all, list_any};
+ghost use Rattle.std.specs.List.{list_all};
 ghost use Rattle.ways.specs.Ways.{among, same};
-ghost use Rattle.tables.specs.Literal.{literal, var};
+ghost use Rattle.tables.specs.Literal.{literal};
 ghost use Rattle.tables.specs.Clause.{clauses};
 ghost use Rattle.rules.specs.Patterns.{anchors, first_of, found, group, parity};
 ghost use Rattle.patterns.specs.Seen.{see, seen};
 
 use crate::index::{Index, key};
 use crate::signs::{MOST_GROUPED, is_odd, signs};
-use tables::clause::is_same;
-use tables::literal::{literal, var};
-
-/// Whether two entries are of one variable.
-fn is_of_variable(entry: i32, other: i32) -> bool
-    ensures { result ≡ eqb (var (literal entry)) (var (literal other)) }
-{
-    var(literal(entry)) == var(literal(other))
-}
-
-/// Whether two clauses are over the same variables, one by one.
-#[tactic(auto, using(crate::proofs::Same::vars_longer))]
-fn has_variables_of(clause: &[i32], anchor: &[i32]) -> bool
-    ensures is { result ≡ same (map var (map literal clause.now)) (map var (map literal anchor.now)) }
-    ensures long { OnTrue result (length clause.now ≡ length anchor.now) }
-{
-    clause.len() == anchor.len()
-        && clause
-            .iter()
-            .zip(anchor)
-            .all(|(&entry, &other)| is_of_variable(entry, other))
-}
+use tables::clause::{has_variables_of, is_same};
 
 /// Whether the clause is of the anchor's group: over the same variables, with as many negative literals, odd or even.
-#[tactic(auto, using(crate::proofs::Whole::group_by_odd, crate::proofs::Whole::other_vars))]
+#[tactic(auto, using(rules::proofs::Groups::group_by_odd, rules::proofs::Groups::other_vars))]
 fn is_alike(clause: &[i32], anchor: &[i32]) -> bool
     requires { length anchor.now ≤ MOST_GROUPED }
     ensures is { result ≡ among (map literal clause.now) (group (map literal anchor.now)) }
