@@ -24,13 +24,8 @@ levels_more n row sites i d h =
     pushed [] x = refl
     pushed (y ∷ xs) x = ap (λ gs. gate_of row y ∷ gs) (pushed xs x)
 
-high_below : (lv inputs : List ℕ) (k b : ℕ) → k ≤ b → ((v : ℕ) → get_or lv v 0 ≤ b) → fold (λ k x. max k (get_or lv (var x) 0)) k inputs ≤ b
-high_below lv [] k b h all = h
-high_below lv (x ∷ inputs) k b h all = let q = all (var x) in high_below lv inputs (max k (get_or lv (var x) 0)) b (omega arith) all
-
 -- No level is higher than the number of gates before.
 pub levels_low : (n : ℕ) (row : List ℤ) (sites : List Site) (i : ℕ) (inputs : List ℕ) → highest (levels n (gates_of row (take i sites))) inputs ≤ i
-unfolding highest
 levels_low n row sites i inputs =
-    high_below (levels n (gates_of row (take i sites))) inputs 0 i (omega arith)
+    Circuits.highest_below (levels n (gates_of row (take i sites))) inputs i
     (λ v. let q = Circuits.levels_low n (gates_of row (take i sites)) v in omega (arith, length-map (take i sites) (gate_of row), length-take i sites))

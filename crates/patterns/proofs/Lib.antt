@@ -4,6 +4,5 @@ pub mod Forms
 pub mod Keyed
 pub mod Masks
 pub mod Ones
-pub mod Same
 pub mod Steps
 pub mod Whole

@@ -7,7 +7,7 @@ use Rattle.std.proofs.lemmas.Bool.{cases_Bool}
 use Rattle.std.proofs.lemmas.List.{length-map}
 use Rattle.std.proofs.lemmas.List.Sums.{sum_by-cons, count_by-le-length}
 use Rattle.std.proofs.lemmas.Nat.{one_shl}
-use Rattle.std.proofs.Math.Bool.{beq, xor, and-false, or-false, or_assoc}
+use Rattle.std.proofs.Math.Bool.{xor, and-false, or-false, or_assoc}
 use Rattle.ways.specs.Ways.{same, among}
 use Rattle.tables.specs.Literal.{literal, var}
 use Rattle.tables.specs.Clause.{clauses}
@@ -75,16 +75,6 @@ whole_row row c h k =
     let n : length (map literal c) ≡ length c = length-map c literal in
     let p : 0 < length (map literal c) = rw (n) h in
     rw (one_shl (length c - 1) 32 (omega arith), ← n) (whole_ones (clauses row) (map literal c) p)
-
-xor_beq : (p q : Bool) → not (xor p q) ≡ beq p q
-unfolding xor
-xor_beq p q = search rules
-
-pub group_by_odd : (c d : List ℕ) → same (map var d) (map var c) ≡ true → beq (odd d) (odd c) ≡ among d (group c)
-group_by_odd c d h = sym (in_group c d ∙ rw (h) (xor_beq (odd d) (odd c)))
-
-pub other_vars : (c d : List ℕ) → same (map var d) (map var c) ≡ false → among d (group c) ≡ false
-other_vars c d h = in_group c d ∙ rw (h) refl
 
 pub first_of_none : (ds : List (List ℕ)) (c : List ℤ) → 0 < length c → same (first_of ds []) (map literal c) ≡ false
 unfolding first_of

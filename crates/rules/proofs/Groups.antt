@@ -4,7 +4,7 @@ use Rattle.std.specs.Cmp.Lexicographic.{bytes_decides}
 use Rattle.std.proofs.lemmas.Bool.{and_parts}
 use Rattle.std.proofs.lemmas.List.{length-map}
 use Rattle.std.proofs.lemmas.List.Folds.{list_any-append}
-use Rattle.std.proofs.Math.Bool.{xor}
+use Rattle.std.proofs.Math.Bool.{beq, xor}
 use Rattle.ways.specs.Ways.{same, among}
 use Rattle.tables.specs.Literal.{var, neg}
 use Rattle.tables.proofs.Literals.{var_pos, var-neg, neg_pos, neg-neg, two_forms}
@@ -87,3 +87,14 @@ in_group c d = in_signings (map var c) (odd c) d
 
 pub group_vars : (c d : List ℕ) → among d (group c) ≡ true → map var d ≡ map var c
 group_vars c d e = (bytes_decides (map var d) (map var c)).0 (and_parts (same (map var d) (map var c)) (not (xor (odd d) (odd c))) (sym (in_group c d) ∙ e)).0
+
+-- Over the group's variables, the number of negative literals decides.
+xor_beq : (p q : Bool) → not (xor p q) ≡ beq p q
+unfolding xor
+xor_beq p q = search rules
+
+pub group_by_odd : (c d : List ℕ) → same (map var d) (map var c) ≡ true → beq (odd d) (odd c) ≡ among d (group c)
+group_by_odd c d h = sym (in_group c d ∙ rw (h) (xor_beq (odd d) (odd c)))
+
+pub other_vars : (c d : List ℕ) → same (map var d) (map var c) ≡ false → among d (group c) ≡ false
+other_vars c d h = in_group c d ∙ rw (h) refl
