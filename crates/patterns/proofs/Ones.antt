@@ -3,7 +3,7 @@ use Rattle.std.proofs.Common.{◌≡◌, ◌∙◌, refl, ap, ℕ, suc, ◌+◌,
 use mir.Val.{bool_byte}
 use Rattle.std.specs.Int.RustNames.{count_ones}
 use Rattle.std.proofs.lemmas.List.{drop_all, drop_more, length-drop, length-map}
-use Rattle.std.proofs.lemmas.Nat.{one_shl, ones_cat}
+use Rattle.std.proofs.lemmas.Nat.{ones_cat}
 use Rattle.std.proofs.Math.Bool.{xor}
 use Rattle.std.proofs.Math.Pow.{pow_mono}
 use Rattle.tables.specs.Literal.{literal, neg}
@@ -91,6 +91,3 @@ one_byte false = refl
 
 pub below_32 : (s i : ℕ) → s < 2 ^ i → i ≤ 5 → s < 32
 below_32 s i h k = let p : 2 ^ i ≤ 2 ^ 5 = pow_mono k in omega arith
-
-pub shifted : (s : ℕ) → s < 32 → 1 * 2 ^ s % 2 ^ 32 ≡ 2 ^ s
-shifted s h = one_shl s 32 h

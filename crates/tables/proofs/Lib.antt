@@ -8,3 +8,4 @@ pub mod SameEntries
 pub mod SameVariables
 pub mod Verdicts
 pub mod EndedClauses
+pub mod Entries

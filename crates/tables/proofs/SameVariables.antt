@@ -1,4 +1,4 @@
--- Clauses are over the same variables where they are one by one.
+-- Clauses are over the same variables where these are the same one by one.
 use Rattle.std.proofs.Common.{◌≡◌, ◌∙◌, refl, sym, ap, ℕ, false, ◌&&◌, eqb, List, [], ◌∷◌, map, length, ℤ, arith}
 use Rattle.std.specs.List.{list_all, zip}
 use Rattle.std.specs.Cmp.Lexicographic.{bytes_decides}
