@@ -1,6 +1,7 @@
 -- Laws of an evening: what the theorems about the rounds say of one.
-use Rattle.std.proofs.Common.{◌≡◌, ◌∙◌, refl, sym, ap, subst, ℕ, suc, ◌+◌, ◌*◌, ◌<◌, ◌≤◌, List, length, get_or, arith, ℤ, true, not}
+use Rattle.std.proofs.Common.{◌≡◌, ◌∙◌, refl, sym, ap, subst, ℕ, zero, suc, ◌+◌, ◌*◌, ◌<◌, ◌≤◌, List, [], ◌∷◌, length, get_or, arith, ℤ, true, not}
 use Rattle.std.specs.Prelude.{Ok}
+use mathlib.Core.List.Memᴰ
 use mathlib.Core.List.{Memᴰ}
 use Rattle.std.specs.List.{All, list_all}
 use Rattle.tables.specs.Literal.{literal, var}
@@ -11,7 +12,7 @@ use Rattle.rules.specs.Pins.{out_of_range}
 use Rattle.rules.specs.Rounds.{Outcome, impossible, settled, outcome, pinned}
 use Rattle.settling.proofs.Inside.{pinned_inside}
 use Rattle.settling.proofs.Bound.{Settled, Ends, outcome_ends}
-use Rattle.circuits.proofs.Order.{Ordered}
+use Rattle.circuits.proofs.Order.{Ordered, next}
 use Rattle.circuits.proofs.Whole.{are_taken, gates_within}
 use Rattle.rules.specs.Patterns.{Gate}
 use Rattle.rules.specs.Taking.{allowed, taken}
@@ -21,11 +22,25 @@ use Rattle.rounds.proofs.SubstituteSteps.{inside_entries}
 use Rattle.rounds.proofs.RoundSteps.{all_inside, ended_last}
 use Rattle.taking.specs.Settled.{IsSettled}
 use Rattle.rules.specs.Calls.{rounds_in, stands_in, gates_in, listed, bad_values}
+use Rattle.ways.proofs.Members.{get_or-mem}
+use Rattle.gates.specs.Sites.{gate_of, gates_of}
 use Rattle.gates.specs.TakenGates as Taken
+use Rattle.gates.specs.declared.site.Site.{Site}
+use Rattle.gates.proofs.SiteLaws.{output_at}
+use Rattle.listing.specs.Apart.{Apart}
 use Rattle.builder.specs.Evenings.{IsEvening, Evaluates}
 use Rattle.builder.specs.Builds.{listing_of}
 use Rattle.builder.specs.Values.{bad_in}
 use Rattle.listing.specs.declared.evening.Evening.{Evening}
+
+-- Gates that stand in order have different outputs.
+ordered_apart : (row : List ℤ) (sites : List Site) → Ordered (gates_of row sites) → Apart sites
+ordered_apart row [] o i j d h k e = omega arith
+ordered_apart row (s ∷ sites) (next self before o) zero (suc j) d h k e =
+    (before (gate_of row (get_or sites j d)) (Memᴰ.map (gate_of row) (get_or-mem sites j d (omega arith)))).other
+    (output_at row s ∙ e ∙ sym (output_at row (get_or sites j d)))
+ordered_apart row (s ∷ sites) (next self before o) (suc i) (suc j) d h k e = ordered_apart row sites o i j d (omega arith) (omega arith) e
+ordered_apart row (s ∷ sites) o i zero d h k e = absurd (omega arith)
 
 -- The table that the rounds leave of one that the check accepts, with pins in range.
 module _ (n : ℕ) (t pins : List ℤ) (good : checked n t ≡ Ok tt) (in_range : list_all (λ x. not (out_of_range n x)) pins ≡ true) (r : ℕ) (st : List ℕ) (cs : List (List ℕ))
@@ -65,6 +80,17 @@ module _ (n : ℕ) (t pins : List ℤ) (good : checked n t ≡ Ok tt) (in_range 
   pub gates_inside : (g : Gate) → Memᴰ g (taken n cs) → (1 ≤ g.output) × (g.output ≤ n)
   unfolding taken
   gates_inside = gates_within n st cs left_settled (allowed n) (λ gs g e. e)
+
+  -- Where these gates stand.
+  module _ (row : List ℤ) (sites : List Site) (are : gates_of row sites ≡ taken n cs) where
+    pub sites_inside : All (λ s. var s.output ≤ n) sites
+    sites_inside k d h =
+        let site : Site = get_or sites k d in
+        let out = (rw are at gates_inside (gate_of row site) (Memᴰ.map (gate_of row) (get_or-mem sites k d h))).1 in
+        omega (arith, out, output_at row site)
+
+    pub sites_apart : Apart sites
+    sites_apart = ordered_apart row sites (rw are gates_ordered)
 
 -- The evening of a table and pins.
 module _ (n : ℕ) (t pins : List ℤ) (good : checked n t ≡ Ok tt) (in_range : list_all (λ x. not (out_of_range n x)) pins ≡ true) (e : Evening)
