@@ -52,7 +52,8 @@ module _ (n : ℕ) (t : List ℤ) (b : Book) (work : ℕ) (out : List ℕ) where
       let o : Outcome = outcome_of n t b in
       let v : Verdict = refuse (ltb (length out) bytes) (ShortBuffer bytes) in
       let decided : first_refusal (whole n t b work more) ≡ v = tests_pass n t b work more good passed ∙ last v in
-      let w : answer ≡ result_and v (Ok (record { rounds = rounds_in o; bytes = bytes })) = a ∙ rw (sym (listed_is n o e is), sym (rounds_are n o e is)) refl in
-      (w ∙ ap (λ x. result_and x (Ok (record { rounds = rounds_in o; bytes = bytes }))) (sym decided),
-      l ∙ rw (sym (listed_is n o e is)) (ap (λ x. leaves x (listed n o) out) w ∙ leaves_as v (record { rounds = rounds_in o; bytes = bytes }) (listed n o)
-      ∙ ap (λ x. leaves x (listed n o) out) (sym decided)))
+      let w : answer ≡ result_and v (Ok (record { rounds = rounds_in o; bytes = bytes })) = a ∙ rw (sym (listed_is n o e is), sym (rounds_are n o e is)) refl in (
+        w ∙ ap (λ x. result_and x (Ok (record { rounds = rounds_in o; bytes = bytes }))) (sym decided),
+        l ∙ rw (sym (listed_is n o e is)) (ap (λ x. leaves x (listed n o) out) w ∙ leaves_as v (record { rounds = rounds_in o; bytes = bytes }) (listed n o)
+            ∙ ap (λ x. leaves x (listed n o) out) (sym decided)),
+      )

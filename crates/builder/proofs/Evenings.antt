@@ -3,7 +3,7 @@ use Rattle.std.proofs.Common.{◌≡◌, ◌∙◌, refl, sym, ap, subst, ℕ, z
 use Rattle.std.specs.Prelude.{Ok}
 use mathlib.Core.List.Memᴰ
 use mathlib.Core.List.{Memᴰ}
-use Rattle.std.specs.List.{All, list_all}
+use Rattle.std.specs.List.{All, list_all, filter, range_with_len}
 use Rattle.tables.specs.Literal.{literal, var}
 use Rattle.tables.specs.Clause.{clauses}
 use Rattle.tables.proofs.Clauses.{All as EachLiteral}
@@ -16,6 +16,7 @@ use Rattle.circuits.proofs.Order.{Ordered, next}
 use Rattle.circuits.proofs.Whole.{are_taken, gates_within}
 use Rattle.rules.specs.Patterns.{Gate}
 use Rattle.rules.specs.Taking.{allowed, taken}
+use Rattle.rules.specs.Listing.{listing}
 use Rattle.rounds.specs.Ended.{Ended}
 use Rattle.rounds.proofs.SettleSteps.{few_variables}
 use Rattle.rounds.proofs.SubstituteSteps.{inside_entries}
@@ -30,7 +31,7 @@ use Rattle.gates.proofs.SiteLaws.{output_at}
 use Rattle.listing.specs.Apart.{Apart}
 use Rattle.builder.specs.Evenings.{IsEvening, Evaluates}
 use Rattle.builder.specs.Builds.{listing_of}
-use Rattle.builder.specs.Values.{bad_in}
+use Rattle.builder.specs.Values.{is_bad, bad_in}
 use Rattle.listing.specs.declared.evening.Evening.{Evening}
 
 -- Gates that stand in order have different outputs.
@@ -86,7 +87,7 @@ module _ (n : ℕ) (t pins : List ℤ) (good : checked n t ≡ Ok tt) (in_range 
     pub sites_inside : All (λ s. var s.output ≤ n) sites
     sites_inside k d h =
         let site : Site = get_or sites k d in
-        let out = (rw are at gates_inside (gate_of row site) (Memᴰ.map (gate_of row) (get_or-mem sites k d h))).1 in
+        let out = (gates_inside (gate_of row site) (subst (Memᴰ (gate_of row site)) are (Memᴰ.map (gate_of row) (get_or-mem sites k d h)))).1 in
         omega (arith, out, output_at row site)
 
     pub sites_apart : Apart sites
@@ -118,8 +119,10 @@ module _ (n : ℕ) (o : Outcome) (e : Evening) (is : IsEvening n o e) where
 
   pub bad_are : (given : List ℕ) → bad_values n o given ≡ bad_in e given
   unfolding bad_values
-  bad_are given = rw (stands_are, gates_are, is.variables) refl
+  bad_are given = rw (stands_are, gates_are) (ap (λ k. filter (is_bad e given) (range_with_len 1 k)) (sym is.variables))
 
   pub listed_is : listed n o ≡ listing_of e
   unfolding listed
-  listed_is = rw is.comes (rw (is.variables, is.gates) refl)
+  listed_is =
+      rw is.comes (ap (λ gs. listing n e.rounds e.stands.now (clauses e.taken.row.now) gs) (sym is.gates)
+      ∙ ap (λ k. listing k e.rounds e.stands.now (clauses e.taken.row.now) (Taken.gates_in e.taken)) (sym is.variables))

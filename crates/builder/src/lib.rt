@@ -2,8 +2,8 @@
 #![tactic(auto)]
 
 pub mod ask;
-// pub mod build;
+pub mod build;
 pub mod evening;
 pub mod fill;
-// pub mod program;
+pub mod program;
 pub mod values;
