@@ -1,6 +1,6 @@
 -- What is left of the buffer grows less.
 use Rattle.std.proofs.Common.{◌-◌, ◌≤◌, length}
-use Rattle.rewrite.proofs.fill.Given as goal
+use Rattle.intake.proofs.fill.Given as goal
 
 abbrev pub invariant-loop-filled : goal.invariant-loop-filled
 invariant-loop-filled g l = l.filled ≤ length l.buffer
