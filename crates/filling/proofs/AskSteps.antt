@@ -25,8 +25,8 @@ use Rattle.gates.specs.Inputs.{inputs}
 use Rattle.gates.specs.Counting.{counts}
 use Rattle.filling.specs.Places.{IsGateFor}
 use Rattle.filling.specs.Asking.{IsCircuit, IsTaken, ended, level, Remembers}
+use Rattle.gates.proofs.SiteLaws.{output_at}
 use Rattle.gates.proofs.SiteGates.{inputs_are}
-use Rattle.filling.proofs.FillSteps.{output_is}
 use Rattle.filling.proofs.Filled.{all_mem}
 
 -- The gate that was found, and that there is none.
@@ -57,7 +57,7 @@ module _ (c : Circuit) where
     unfolding ended fill_gates
     given_ended v h =
         sym (fill_other (length c.given.now) (gates_in c.taken) k.outputs c.given.now v
-        (λ g i q. let (s, j, w) = Memᴰ.of_map (gate_of c.taken.row.now) c.taken.sites.now i in h s j (q ∙ ap (λ (f : Gate). f.output) (sym w) ∙ output_is c.taken.row.now s)))
+        (λ g i q. let (s, j, w) = Memᴰ.of_map (gate_of c.taken.row.now) c.taken.sites.now i in h s j (q ∙ ap (λ (f : Gate). f.output) (sym w) ∙ output_at c.taken.row.now s)))
 
     module _ (site : Site) (t : IsTaken c site) where
       pub site_within : Within c.taken.row.now site
@@ -71,12 +71,12 @@ module _ (c : Circuit) where
       unfolding ended fill_gates
       gate_ended =
           sym (fill_rules (length c.given.now) k.ordered k.outputs c.given.now (omega arith) (gate_of c.taken.row.now site) member)
-          ∙ ap (valued (fill_gates (gates_in c.taken) c.given.now)) (output_is c.taken.row.now site)
+          ∙ ap (valued (fill_gates (gates_in c.taken) c.given.now)) (output_at c.taken.row.now site)
 
       pub gate_level : 1 ≤ level c (var site.output)
       unfolding level
       gate_level =
-          subst (λ v. 1 ≤ get_or (levels (length c.given.now) (gates_in c.taken)) v 0) (output_is c.taken.row.now site)
+          subst (λ v. 1 ≤ get_or (levels (length c.given.now) (gates_in c.taken)) v 0) (output_at c.taken.row.now site)
           (omega (arith, level_is (length c.given.now) k.ordered inside (gate_of c.taken.row.now site) member))
 
       -- Each question goes one level down.
@@ -84,7 +84,7 @@ module _ (c : Circuit) where
       unfolding level
       input_falls x v i e =
           let r : get_or (levels (length c.given.now) (gates_in c.taken)) (var x) 0 < get_or (levels (length c.given.now) (gates_in c.taken)) (var site.output) 0 =
-          subst (λ o. get_or (levels (length c.given.now) (gates_in c.taken)) (var x) 0 < get_or (levels (length c.given.now) (gates_in c.taken)) o 0) (output_is c.taken.row.now site)
+          subst (λ o. get_or (levels (length c.given.now) (gates_in c.taken)) (var x) 0 < get_or (levels (length c.given.now) (gates_in c.taken)) o 0) (output_at c.taken.row.now site)
           (level_rises (length c.given.now) k.ordered inside (gate_of c.taken.row.now site) member x (subst (Memᴰ x) (sym (inputs_are c.taken.row.now site)) i)) in
           rw (e) (omega arith)
 

@@ -17,7 +17,7 @@ use tables::sizes::MOST_VARIABLES;
 use tables::values::is_true;
 
 /// Gives a gate's output its value.
-#[tactic(auto, using(crate::proofs::FillSteps::output_is, crate::proofs::FillSteps::step_past), unfolding(rules::specs::Fill::fill_step, rules::specs::Fill::bit))]
+#[tactic(auto, using(gates::proofs::SiteLaws::output_at, crate::proofs::FillSteps::step_past), unfolding(rules::specs::Fill::fill_step, rules::specs::Fill::bit))]
 fn evaluate_one(row: &[i32], site: Site, values: &mut [u8])
     requires { Within row.now site }
     ensures { values.new ≡ fill_step values.old (gate_of row.now site) }
