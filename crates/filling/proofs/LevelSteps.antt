@@ -1,8 +1,7 @@
 -- The levels, gate by gate.
-use Rattle.std.proofs.Common.{◌≡◌, ◌∙◌, refl, ap, ℕ, ◌+◌, ◌-◌, ◌<◌, ◌≤◌, max, List, [], ◌∷◌, ◌++◌, take, ℤ, fold, length, get_or, replicate, arith}
-use Rattle.std.proofs.lemmas.List.{take_more, length-map, length-take}
+use Rattle.std.proofs.Common.{◌≡◌, ◌∙◌, refl, ap, ℕ, ◌+◌, ◌-◌, ◌<◌, ◌≤◌, List, [], ◌∷◌, take, ℤ, fold, length, get_or, replicate, arith}
+use Rattle.std.proofs.lemmas.List.{take_more, length-map, length-take, map-append}
 use Rattle.std.proofs.lemmas.List.Sums.{fold_push}
-use Rattle.tables.specs.Literal.{var}
 use Rattle.rules.specs.Circuit.{highest, level_step, levels}
 use Rattle.circuits.proofs.Levels as Circuits
 use Rattle.gates.specs.declared.site.Site.{Site}
@@ -17,12 +16,8 @@ pub levels_more : (n : ℕ) (row : List ℤ) (sites : List Site) (i : ℕ) (d : 
 unfolding levels
 levels_more n row sites i d h =
     ap (λ xs. levels n (gates_of row xs)) (take_more sites i d h)
-    ∙ ap (fold level_step (replicate (n + 1) 0)) (pushed (take i sites) (get_or sites i d))
+    ∙ ap (fold level_step (replicate (n + 1) 0)) (map-append (gate_of row) (take i sites) (get_or sites i d ∷ []))
     ∙ fold_push level_step (replicate (n + 1) 0) (gates_of row (take i sites)) (gate_of row (get_or sites i d))
-  where
-    pushed : (xs : List Site) (x : Site) → gates_of row (xs ++ (x ∷ [])) ≡ gates_of row xs ++ (gate_of row x ∷ [])
-    pushed [] x = refl
-    pushed (y ∷ xs) x = ap (λ gs. gate_of row y ∷ gs) (pushed xs x)
 
 -- No level is higher than the number of gates before.
 pub levels_low : (n : ℕ) (row : List ℤ) (sites : List Site) (i : ℕ) (inputs : List ℕ) → highest (levels n (gates_of row (take i sites))) inputs ≤ i

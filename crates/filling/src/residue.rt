@@ -43,6 +43,7 @@ fn is_partner(clause: &[i32], anchor: &[i32], output: usize) -> bool
 }
 
 /// Whether the clause is of the anchor's parity group: over the same variables, with as many negative literals, odd or even.
+// The search for patterns has the same by sign masks, which hold five literals; here nothing says that the anchor is so short.
 #[tactic(auto, using(rules::proofs::Groups::group_by_odd, rules::proofs::Groups::other_vars))]
 fn is_alike(clause: &[i32], anchor: &[i32]) -> bool
     ensures { result ≡ among (map literal clause.now) (group (map literal anchor.now)) }

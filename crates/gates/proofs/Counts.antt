@@ -5,9 +5,8 @@ use Rattle.std.specs.List.{list_any, list_all, count_by}
 use Rattle.std.proofs.lemmas.Bool.Decides.{nat_tests}
 use Rattle.std.proofs.lemmas.List.Sums.{count_by-le-length, sum_by-cons}
 use Rattle.ways.specs.Ways.{oddly}
-use Rattle.ways.proofs.Rows.{list_all-not}
-use Rattle.tables.specs.Literal.{var, neg, holds}
-use Rattle.rules.specs.Kinds.{signs, rule}
+use Rattle.tables.specs.Literal.{var, holds}
+use Rattle.rules.specs.Kinds.{rule}
 use Rattle.gates.specs.Counting.{counts, by_count}
 
 all_step : (b : Bool) (n m : ℕ) → n ≤ m → (b && eqb n m) ≡ eqb (cond b 1 0 + n) (suc m)

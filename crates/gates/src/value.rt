@@ -32,6 +32,7 @@ pub fn rule_of(kind: u8, trues: usize, inputs: usize) -> bool
 }
 
 /// Whether an odd number of the clause's literals is negative.
+// Counted, for a clause of any length: the search for patterns has it for at most five literals, as ones of their sign mask.
 #[tactic(auto, using(crate::proofs::Counts::odd_count), unfolding(rules::specs::Patterns::odd))]
 pub fn is_odd(clause: &[i32]) -> bool
     ensures { result ≡ odd (map literal clause.now) }

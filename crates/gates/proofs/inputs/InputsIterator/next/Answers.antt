@@ -1,5 +1,5 @@
 -- The next input is that of the first literal that is not the output.
-use Rattle.std.proofs.Common.{◌≡◌, ◌∷◌, length, ap, rules}
+use Rattle.std.proofs.Common.{length, ap, rules}
 use Rattle.gates.specs.Inputs.{to_come}
 use Rattle.gates.proofs.InputSteps.{no_input, next_input}
 use Rattle.gates.proofs.inputs.InputsIterator.next.Goals as goal
