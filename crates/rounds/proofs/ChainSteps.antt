@@ -1,12 +1,11 @@
 -- Laws of the chains: how they grow clause by clause, and what a walk along one finds.
-use Rattle.std.proofs.Common.{◌≡◌, ◌≢◌, refl, sym, ap, subst, ◌∙◌, ℕ, suc, ◌+◌, ◌*◌, ◌-◌, ◌<◌, ◌≤◌, List, [], ◌∷◌, length, get_or, set, replicate, take, drop, map, arith, ℤ, pos, Bool, true, false, cond, eqb, ◌&&◌, ◌||◌, get_or-set_same, get_or-set_other, length-set}
+use Rattle.std.proofs.Common.{◌≡◌, ◌≢◌, refl, sym, ap, subst, ◌∙◌, ℕ, suc, ◌+◌, ◌-◌, ◌<◌, ◌≤◌, List, [], ◌∷◌, length, get_or, set, replicate, take, drop, map, arith, ℤ, pos, Bool, true, false, cond, eqb, ◌&&◌, ◌||◌, get_or-set_same, get_or-set_other}
 use mathlib.Core.Bool.{or-false}
 use borrow.Author.Tests.{eqb-true, eqb-false, eq-eqb, ne_eqb}
 use Rattle.std.proofs.lemmas.List.{drop_more, length-map, length-drop, drop-drop}
 use Rattle.std.specs.List.{fold}
 use Rattle.ways.specs.Ways.{has, same, among}
-use Rattle.tables.specs.Literal.{literal, var, opp}
-use Rattle.tables.proofs.Literals.{opp_is}
+use Rattle.tables.specs.Literal.{literal}
 use Rattle.tables.specs.Clause.{clauses}
 use Rattle.ways.proofs.Runs.{fold-list_any}
 use Rattle.ways.proofs.Members.{get_or_same}

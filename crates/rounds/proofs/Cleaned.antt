@@ -2,9 +2,8 @@
 use Rattle.std.proofs.Common.{◌≡◌, ◌∙◌, sym, ap, ℕ, ◌+◌, ◌-◌, ◌<◌, ◌≤◌, Bool, true, false, ◌||◌, eqb, List, [], ◌∷◌, ◌++◌, map, length, get_or, take, drop, arith, ℤ, pos}
 use borrow.Author.Tests.{ne_eqb}
 use Rattle.std.specs.List.{fold}
-use Rattle.std.proofs.lemmas.List.{take-take, get_or-take, map_push}
+use Rattle.std.proofs.lemmas.List.{map_push}
 use Rattle.std.proofs.lemmas.List.Edits.{between_more}
-use Rattle.std.proofs.lemmas.Slice.{between_is}
 use Rattle.ways.specs.Ways.{has}
 use Rattle.tables.specs.Literal.{literal}
 use Rattle.tables.specs.Clause.{clauses_from}
@@ -13,16 +12,13 @@ use Rattle.rules.specs.Clean.{clean_step}
 use Rattle.rounds.proofs.Parts.{same_further, same_next}
 use Rattle.rounds.proofs.Open.{open_part, open_ends, open_grows}
 
--- The row now and the row as it was, whose first n entries are cleaned: from start on they are the same.
-module _ (row was : List ℤ) (n start place : ℕ) (d : drop start row ≡ drop start was) (h : start ≤ place) where
-  pub same_part : place ≤ n → map literal (take (place - start) (drop start row)) ≡ open_part (take n was) start place
-  same_part k =
-      let m : place - start ≤ n - start = omega arith in
-      ap (λ zs. map literal (take (place - start) zs)) d
-      ∙ ap (map literal) (sym (take-take (place - start) (n - start) (drop start was) m) ∙ ap (take (place - start)) (between_is was start n))
+-- The row now and the row as it was: from start on they are the same.
+module _ (row was : List ℤ) (start place : ℕ) (d : drop start row ≡ drop start was) where
+  pub same_part : map literal (take (place - start) (drop start row)) ≡ open_part was start place
+  same_part = ap (λ zs. map literal (take (place - start) zs)) d
 
-  pub same_entry : place < n → place < length row → place < length was → get_or (take n was) place (pos 0) ≡ get_or row place (pos 0)
-  same_entry k a b = get_or-take n was place (pos 0) k ∙ sym (same_next row was place (same_further row was start d place h) a b)
+  pub same_entry : start ≤ place → place < length row → place < length was → get_or was place (pos 0) ≡ get_or row place (pos 0)
+  same_entry h a b = sym (same_next row was place (same_further row was start d place h) a b)
 
 -- One entry more.
 module _ (m : List ℕ) (whole done : List (List ℕ)) (row : List ℤ) (start place : ℕ) (k : place < length row)

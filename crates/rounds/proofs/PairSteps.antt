@@ -1,9 +1,8 @@
 -- The pairs among a row's clauses, one clause after another.
-use Rattle.std.proofs.Common.{◌≡◌, ◌∙◌, refl, sym, ap, subst, ℕ, ◌<◌, Bool, true, false, cond, ◌&&◌, ◌||◌, List, [], ◌∷◌, length, map, ℤ}
+use Rattle.std.proofs.Common.{◌≡◌, refl, sym, ap, subst, ℕ, ◌<◌, Bool, true, false, cond, ◌&&◌, ◌||◌, List, [], ◌∷◌, map, ℤ}
 use Rattle.std.specs.List.{All, filter, list_any}
 use Rattle.std.proofs.lemmas.List.Elements.{All-head, All-tail}
 use Rattle.tables.specs.Literal.{literal, var}
-use Rattle.tables.specs.Clause.{clauses}
 use Rattle.tables.proofs.EndedClauses.{all_entries}
 use Rattle.rules.specs.Pairs.{pairs}
 use Rattle.rounds.specs.Pairs.{paired_in}

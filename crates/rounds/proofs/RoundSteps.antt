@@ -1,5 +1,5 @@
 -- A round's steps put together: what each of them asks of the row, and what they come to.
-use Rattle.std.proofs.Common.{◌≡◌, ◌∙◌, refl, sym, ap, subst, ℕ, zero, suc, ◌+◌, ◌-◌, ◌*◌, ◌<◌, ◌≤◌, Bool, true, false, cond, eqb, List, [], ◌∷◌, ◌++◌, map, length, get_or, take, length-take-le, get_or-take, arith, ℤ, pos, eqb-true}
+use Rattle.std.proofs.Common.{◌≡◌, ◌∙◌, refl, sym, ap, subst, ℕ, suc, ◌+◌, ◌-◌, ◌*◌, ◌<◌, ◌≤◌, Bool, true, false, cond, eqb, List, [], ◌∷◌, ◌++◌, map, length, get_or, arith, ℤ, pos, eqb-true}
 use mathlib.Core.List.Memᴰ
 use mathlib.Core.List.{Memᴰ}
 use Rattle.std.specs.List.{fold, list_any, All}
@@ -134,14 +134,9 @@ module _ (n : ℕ) (st : List ℕ) (row pins : List ℤ) (good : Good n st (pinn
         let less : k - 1 ≡ n = omega arith in
         stands_is ∙ ap (λ f. fold join f (pairs out)) (first_is ∙ rw (less, marks_are) refl) ∙ ap (λ o. fold join (starting n (forced n cs)) (pairs o)) kept_are
 
--- A front that is ended stays so where its zeros stay.
-pub front_ended : (old new : List ℤ) (k : ℕ) → k ≤ length old → length new ≡ length old → Ended (take k old)
-    → ((i : ℕ) → get_or old i (pos 0) ≡ pos 0 → get_or new i (pos 0) ≡ pos 0) → Ended (take k new)
+-- A row that is ended stays so where its zeros stay.
+pub ended_stays : (old new : List ℤ) → length new ≡ length old → Ended old → ((i : ℕ) → get_or old i (pos 0) ≡ pos 0 → get_or new i (pos 0) ≡ pos 0) → Ended new
 unfolding left_open
-front_ended old new zero h e was_ended zeros = refl
-front_ended old new (suc k) h e was_ended zeros =
-    let a : length (take (suc k) old) ≡ suc k = length-take-le (suc k) old h in
-    let b : length (take (suc k) new) ≡ suc k = length-take-le (suc k) new (omega (arith, e)) in
-    let less : suc k - 1 ≡ k = omega arith in
-    let was : get_or old k (pos 0) ≡ pos 0 = sym (get_or-take (suc k) old k (pos 0) (omega arith)) ∙ rw (a, less) at (ended_last (take (suc k) old) was_ended) in
-    last_ended [] (take (suc k) new) (omega (arith, b)) (rw (b, less) (get_or-take (suc k) new k (pos 0) (omega arith) ∙ zeros k was))
+ended_stays old [] e was_ended zeros = refl
+ended_stays old (z ∷ zs) e was_ended zeros =
+    last_ended [] (z ∷ zs) (omega arith) (zeros (suc (length zs) - 1) (ap (λ n. get_or old (n - 1) (pos 0)) e ∙ ended_last old was_ended))

@@ -3,7 +3,7 @@ use Rattle.std.proofs.Common.{◌≡◌, refl, sym, ap, subst, ◌∙◌, ℕ, s
 use mathlib.Core.List.Memᴰ
 use mathlib.Core.List.{Memᴰ}
 use borrow.Author.Tests.{eqb-true, eqb-false, eq-eqb, ne_eqb}
-use Rattle.std.proofs.lemmas.List.{map_push, length-map, length-take-le, take_at, get_or_append_left, get_or-map, get_or-take, get_or-append_right, get_or-drop}
+use Rattle.std.proofs.lemmas.List.{map_push, length-map, get_or-map, get_or_past}
 use Rattle.std.proofs.lemmas.List.Elements.{All-head, All-tail, All-map, All-nil, All-cons, All-weaker}
 use Rattle.std.proofs.lemmas.Bool.{cases_lt}
 use Rattle.std.specs.List.{All}
@@ -61,36 +61,18 @@ unfolding clauses_from
 from_substituted s [] w b = refl
 from_substituted s (z ∷ zs) w b = one_substituted s b z zs (All-head (Live s) z zs w) (from_substituted s zs (All-tail (Live s) z zs w))
 
-clauses_substituted : (s : List ℕ) (row : List ℤ) → All (Live s) row → clauses (map (substituted s) row) ≡ map (map (replace s)) (clauses row)
+pub clauses_substituted : (s : List ℕ) (row : List ℤ) → All (Live s) row → clauses (map (substituted s) row) ≡ map (map (replace s)) (clauses row)
 unfolding clauses
 clauses_substituted s row w = from_substituted s row w []
 
--- The front of a row is substituted.
-pub front_substituted : (s : List ℕ) (row front : List ℤ) (len : ℕ) → len ≤ length row → All (Live s) (take len row)
-    → front ≡ map (substituted s) (take len row)
-    → clauses (take len (front ++ drop len row)) ≡ map (map (replace s)) (clauses (take len row))
-front_substituted s row front len h w e =
-    let n : length front ≡ len = ap length e ∙ length-map (take len row) (substituted s) ∙ length-take-le len row h in
-    rw (take_at front (drop len row) len n, e) (clauses_substituted s (take len row) w)
-
-pub zero_stays : (s : List ℕ) (row front : List ℤ) (len : ℕ) → len ≤ length row → front ≡ map (substituted s) (take len row)
-    → (k : ℕ) → get_or row k (pos 0) ≡ pos 0 → get_or (front ++ drop len row) k (pos 0) ≡ pos 0
-zero_stays s row front len h e k z = ⊎_elim below above (cases_lt k len)
+pub zero_stays : (s : List ℕ) (row new : List ℤ) → new ≡ map (substituted s) row → (k : ℕ) → get_or row k (pos 0) ≡ pos 0 → get_or new k (pos 0) ≡ pos 0
+zero_stays s row new e k z = ap (λ x. get_or x k (pos 0)) e ∙ ⊎_elim below above (cases_lt k (length row))
   where
-    n : length front ≡ len
-    n = ap length e ∙ length-map (take len row) (substituted s) ∙ length-take-le len row h
+    below : k < length row → get_or (map (substituted s) row) k (pos 0) ≡ pos 0
+    below l = get_or-map (substituted s) row k (pos 0) (pos 0) l ∙ ap (substituted s) z
 
-    below : k < len → get_or (front ++ drop len row) k (pos 0) ≡ pos 0
-    below l =
-        let i : k < length front = omega (arith, n) in
-        let j : k < length (take len row) = omega (arith, length-take-le len row h) in
-        get_or_append_left front (drop len row) (pos 0) k i ∙ ap (λ x. get_or x k (pos 0)) e
-        ∙ get_or-map (substituted s) (take len row) k (pos 0) (pos 0) j ∙ ap (substituted s) (get_or-take len row k (pos 0) l ∙ z)
-
-    above : len ≤ k → get_or (front ++ drop len row) k (pos 0) ≡ pos 0
-    above l =
-        let m : len + (k - len) ≡ k = omega arith in
-        get_or-append_right front (drop len row) len k (pos 0) n l ∙ get_or-drop len row (k - len) (pos 0) ∙ ap (λ x. get_or row x (pos 0)) m ∙ z
+    above : length row ≤ k → get_or (map (substituted s) row) k (pos 0) ≡ pos 0
+    above l = get_or_past (map (substituted s) row) k (pos 0) (omega (arith, length-map row (substituted s)))
 
 -- The entries stay within the row of what each variable stands for.
 one_inside : (s : List ℕ) (z : ℤ) → Coded s → var (literal z) < length s → Live s z → var (literal (substituted s z)) < length s
@@ -100,12 +82,11 @@ one_inside s z c h w = go (eqb (literal z) 0) refl
     go true q = rw (substituted_zero s z (eqb-true (literal z) 0 q)) h
     go false q = rw (substituted_live s z (eqb-false (literal z) 0 q) w) (let r = replace_coded s (literal z) c h in omega arith)
 
-pub front_inside : (s : List ℕ) (row front : List ℤ) (len : ℕ) → len ≤ length row → Coded s → All (λ e. var (literal e) < length s) (take len row)
-    → All (Live s) (take len row) → front ≡ map (substituted s) (take len row) → All (λ e. var (literal e) < length s) (take len (front ++ drop len row))
-front_inside s row front len h c w v e =
-    let n : length front ≡ len = ap length e ∙ length-map (take len row) (substituted s) ∙ length-take-le len row h in
-    rw (take_at front (drop len row) len n, e)
-    (All-map (λ e. var (literal e) < length s) (substituted s) (take len row) (λ k d i. one_inside s (get_or (take len row) k d) c (w k d i) (v k d i)))
+pub row_inside : (s : List ℕ) (row new : List ℤ) → Coded s → All (λ e. var (literal e) < length s) row
+    → All (Live s) row → new ≡ map (substituted s) row → All (λ e. var (literal e) < length s) new
+row_inside s row new c w v e =
+    subst (All (λ e. var (literal e) < length s)) (sym e)
+    (All-map (λ e. var (literal e) < length s) (substituted s) row (λ k d i. one_inside s (get_or row k d) c (w k d i) (v k d i)))
 
 -- Where the last entry is a zero, what holds of the literals of the clauses holds of every entry but the zeros.
 abbrev pub LastEnds : List ℤ → Type 0

@@ -71,18 +71,16 @@ fn clean_clause(row: &mut [i32], kept: usize, start: usize, end: usize, marks: &
     kept + len + 1
 }
 
-/// Cleans the clauses of the first `len` entries in place; how many entries the cleaned ones have, each with its zero.
-pub fn clean(row: &mut [i32], len: usize, marks: &[u8]) -> usize
-    requires { len ≤ length row.old }
-    ensures cleaned { clauses (take result row.new) ≡ clean marks.now (clauses (take len row.old)) }
+/// Cleans the clauses of a row in place; how many entries the cleaned ones have at its front, each clause with its zero.
+pub fn clean(row: &mut [i32], marks: &[u8]) -> usize
+    ensures cleaned { clauses (take result row.new) ≡ clean marks.now (clauses row.old) }
     ensures ended { Ended (take result row.new) }
-    ensures within { result ≤ len }
-    ensures behind { drop len row.new ≡ drop len row.old }
+    ensures within { result ≤ length row.old }
 {
     let mut kept = 0;
     let mut start = 0;
     // By index: the row is written while it is read.
-    for end in 0..len {
+    for end in 0..row.len() {
         if row[end] == 0 {
             kept = clean_clause(row, kept, start, end, marks);
             start = end + 1;

@@ -60,7 +60,7 @@ fn run(
     let mut entries = entries;
     let mut pins = pins;
     for number in 1..n + 2 {
-        match round(n, row, entries, pins, marks, all, stands) {
+        match round(n, &mut row[..entries], pins, marks, all, stands) {
             Turn::Stuck => return Err(Refusal::Contradiction(number)),
             Turn::Over(left) => {
                 return Ok(Settled {

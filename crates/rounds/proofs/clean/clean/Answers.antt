@@ -1,7 +1,7 @@
 -- Each clause that ends is cleaned, and what is behind it is as it was.
-use Rattle.std.proofs.Common.{◌≡◌, ◌∙◌, refl, sym, ap, ◌+◌, ◌<◌, ◌≤◌, length, get_or, take, pos, arith, rules}
+use Rattle.std.proofs.Common.{◌≡◌, ◌∙◌, refl, sym, ap, ◌+◌, ◌<◌, length, get_or, take, pos, arith, rules}
 use Rattle.std.specs.List.{fold}
-use Rattle.std.proofs.lemmas.List.{drop_all, length-take-le}
+use Rattle.std.proofs.lemmas.List.{drop_all}
 use Rattle.ways.specs.Ways.{has}
 use Rattle.tables.specs.Clause.{clauses_from, clauses}
 use Rattle.rules.specs.Clean.{clean_step, clean}
@@ -19,7 +19,7 @@ loop-end-init c = record { so_far = refl; ended = refl; whole = refl; behind = o
 pub clean_clause-kept-requires-clause-one : goal.clean_clause-kept-requires-clause-one
 clean_clause-kept-requires-clause-one c =
     let i = c.loop-end.invariant in
-    let p = same_part c.loop-end.row c.args.row.now c.args.len c.loop-end.start c.loop-end.end i.rest i.before (omega arith) in
+    let p = same_part c.loop-end.row c.args.row.now c.loop-end.start c.loop-end.end i.rest in
     ap (has 0) p ∙ i.whole
 
 pub loop-end-preserved : goal.loop-end-preserved
@@ -28,32 +28,29 @@ loop-end-preserved c =
     let m = c.args.marks.now in
     let was = c.args.row.now in
     let now = c.loop-end.row in
-    let t = take c.args.len was in
     let at = c.loop-end.end in
     let start = c.loop-end.start in
-    let l : c.args.len ≤ length was = c.requires in
-    let s : length t ≡ c.args.len = length-take-le c.args.len was l in
-    let k : at < length t = omega arith in
-    let p = same_part now was c.args.len start at i.rest i.before (omega arith) in
-    let z : get_or t at (pos 0) ≡ get_or now at (pos 0) = same_entry now was c.args.len start at i.rest i.before (omega arith) (omega arith) (omega arith) in
+    let k : at < length was = omega arith in
+    let p = same_part now was start at i.rest in
+    let z : get_or was at (pos 0) ≡ get_or now at (pos 0) = same_entry now was start at i.rest i.before (omega arith) k in
     elim c.if-row-end-eq0.branch [
       | then-row-end-eq0 w ↦
-          let e : get_or t at (pos 0) ≡ pos 0 = z ∙ is_end _ (search rules) w.if-row-end-eq0.true in
+          let e : get_or was at (pos 0) ≡ pos 0 = z ∙ is_end _ (search rules) w.if-row-end-eq0.true in
           let q = w.clean_clause-kept.ensures.cleaned ∙ ap (clean_step m (clauses (take c.loop-end.kept now))) p in
           rw (w.row-is, w.kept-is, w.start-is) (record {
-            so_far = clean_ends m _ (clauses (take c.loop-end.kept now)) t start at k i.so_far (clauses (take w.clean_clause-kept.result w.clean_clause-kept.new.row)) e q;
+            so_far = clean_ends m _ (clauses (take c.loop-end.kept now)) was start at k i.so_far (clauses (take w.clean_clause-kept.result w.clean_clause-kept.new.row)) e q;
             ended = w.clean_clause-kept.ensures.ended;
-            whole = ap (has 0) (none_open t (at + 1));
+            whole = ap (has 0) (none_open was (at + 1));
             behind = w.clean_clause-kept.ensures.within;
             before = omega arith;
             rest = w.clean_clause-kept.ensures.behind ∙ same_further now was start i.rest (at + 1) (omega arith);
           })
       | else-row-end-eq0 w ↦
-          let e = λ (q : get_or t at (pos 0) ≡ pos 0). no_end _ w.if-row-end-eq0.false (sym z ∙ q) in
+          let e = λ (q : get_or was at (pos 0) ≡ pos 0). no_end _ w.if-row-end-eq0.false (sym z ∙ q) in
           rw (w.row-is, w.kept-is, w.start-is) (record {
-            so_far = clean_grows m _ (clauses (take c.loop-end.kept now)) t start at k i.so_far i.before e;
+            so_far = clean_grows m _ (clauses (take c.loop-end.kept now)) was start at k i.so_far i.before e;
             ended = i.ended;
-            whole = whole_grows t start at i.before k e i.whole;
+            whole = whole_grows was start at i.before k e i.whole;
             behind = i.behind;
             before = omega arith;
             rest = i.rest;
@@ -64,13 +61,5 @@ pub returns-clause-cleaned : goal.returns-clause-cleaned
 unfolding clauses_from
 returns-clause-cleaned c =
     let i = c.loop-end.invariant in
-    let t = take c.args.len c.args.row.now in
-    let l : c.args.len ≤ length c.args.row.now = c.requires in
-    let s : length t ≡ c.args.len = length-take-le c.args.len c.args.row.now l in
-    let d = drop_all c.loop-end.end t (omega arith) in
-    sym (i.so_far ∙ ap (λ zs. fold (clean_step c.args.marks.now) (clauses (take c.loop-end.kept c.loop-end.row)) (clauses_from (open_part t c.loop-end.start c.loop-end.end) zs)) d)
-
-pub returns-clause-behind : goal.returns-clause-behind
-returns-clause-behind c =
-    let i = c.loop-end.invariant in
-    same_further c.loop-end.row c.args.row.now c.loop-end.start i.rest c.args.len (omega arith)
+    let d = drop_all c.loop-end.end c.args.row.now (omega arith) in
+    sym (i.so_far ∙ ap (λ zs. fold (clean_step c.args.marks.now) (clauses (take c.loop-end.kept c.loop-end.row)) (clauses_from (open_part c.args.row.now c.loop-end.start c.loop-end.end) zs)) d)

@@ -11,11 +11,10 @@ use Rattle.rounds.proofs.clean.clean.Given as goal
 
 abbrev pub invariant-loop-end : goal.invariant-loop-end
 invariant-loop-end l = record {
-  so_far : clean l.marks (clauses (take l.len l.fn.row))
-      ≡ fold (clean_step l.marks) (clauses (take l.kept l.row))
-      (clauses_from (open_part (take l.len l.fn.row) l.start l.end) (drop l.end (take l.len l.fn.row)));
+  so_far : clean l.marks (clauses l.fn.row)
+      ≡ fold (clean_step l.marks) (clauses (take l.kept l.row)) (clauses_from (open_part l.fn.row l.start l.end) (drop l.end l.fn.row));
   ended : Ended (take l.kept l.row);
-  whole : has 0 (open_part (take l.len l.fn.row) l.start l.end) ≡ false;
+  whole : has 0 (open_part l.fn.row l.start l.end) ≡ false;
   behind : l.kept ≤ l.start;
   before : l.start ≤ l.end;
   rest : drop l.start l.row ≡ drop l.start l.fn.row;

@@ -2,7 +2,7 @@
 use Rattle.std.proofs.Common.{◌≡◌, ℕ, pos, ◌<◌, ◌≤◌, ◌++◌, map, take, drop, length, get_or}
 use Rattle.tables.specs.Literal.{literal, var}
 use Rattle.rounds.specs.Substitute.{substituted}
-use Rattle.rounds.proofs.substitute.substitute_each.Given as goal
+use Rattle.rounds.proofs.substitute.substitute.Given as goal
 
 abbrev pub invariant-loop-place : goal.invariant-loop-place
 invariant-loop-place l = record {
