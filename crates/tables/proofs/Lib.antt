@@ -7,3 +7,4 @@ pub mod Few
 pub mod SameEntries
 pub mod Verdicts
 pub mod EndedClauses
+pub mod Entries

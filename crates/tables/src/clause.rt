@@ -1,5 +1,5 @@
 // Tests of one clause, lent as its own stretch of a table without the ending zero.
-ghost use Rattle.std.specs.Prelude.{◌≡◌, ◌≤◌, map, length};
+ghost use Rattle.std.specs.Prelude.{◌≡◌, ◌≤◌, ◌∷◌, [], map, length};
 ghost use Rattle.ways.specs.Ways.{has, same};
 ghost use Rattle.tables.specs.Literal.{literal, valued};
 ghost use Rattle.tables.specs.Clause.{void, width, satisfies};
@@ -12,6 +12,13 @@ pub fn is_same(clause: &[i32], other: &[i32]) -> bool
     ensures { result ≡ same (map literal clause.now) (map literal other.now) }
 {
     clause == other
+}
+
+/// Whether the clause is that of two literals, in this order.
+pub fn is_clause_of(clause: &[i32], x: usize, y: usize) -> bool
+    ensures { result ≡ same (map literal clause.now) (x ∷ y ∷ []) }
+{
+    clause.len() == 2 && literal(clause[0]) == x && literal(clause[1]) == y
 }
 
 /// Whether the clause has a literal.

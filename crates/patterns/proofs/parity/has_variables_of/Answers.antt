@@ -1,12 +1,14 @@
--- One variable more is the same.
-use Rattle.std.proofs.Common.{◌≡◌, ◌∙◌, sym, ap, get_or, ℤ, pos, arith, rules}
+-- The variables are compared pair by pair.
+use Rattle.std.proofs.Common.{◌∙◌, eqb, rules, tests}
+use Rattle.std.proofs.lemmas.Iterator.{YieldsList-from_slice, YieldsList-from_zip}
+use Rattle.std.proofs.lemmas.Iterator.Search.{all_from_yields_List}
 use Rattle.tables.specs.Literal.{literal, var}
-use Rattle.patterns.proofs.Same.{vars_on}
+use Rattle.patterns.proofs.Same.{vars_zip}
 use Rattle.patterns.proofs.parity.has_variables_of.Goals as goal
 
-pub loop-place-preserved : goal.loop-place-preserved
-loop-place-preserved c =
-    let of = λ (z : ℤ). var (literal z) in
-    let x : c.variable.result ≡ of (get_or c.args.clause.now c.loop-place.place (pos 0)) = c.variable.ensures ∙ ap of (search rules) in
-    let y : c.variable-in-loop-place.result ≡ of (get_or c.args.anchor.now c.loop-place.place (pos 0)) = c.variable-in-loop-place.ensures ∙ ap of (search rules) in
-    c.loop-place.invariant ∙ vars_on c.loop-place.place c.args.clause.now c.args.anchor.now (omega arith) (omega arith) (sym x ∙ c.if-variable.false ∙ y)
+pub returns-then-clause-anchor-clause-is : goal.returns-then-clause-anchor-clause-is
+returns-then-clause-anchor-clause-is c =
+    all_from_yields_List (λ p. eqb (var (literal p.0)) (var (literal p.1))) c.all.new.self _ c.all.result c.all.ensures.ran
+    (YieldsList-from_zip (YieldsList-from_slice c.args.clause.now (cc)) (YieldsList-from_slice c.args.anchor.now (cc)))
+    (λ x b q k. search (rules, tests))
+    ∙ vars_zip c.args.clause.now c.args.anchor.now c.if-clause-anchor.true

@@ -1,7 +1,7 @@
 -- The index at the row's end, at each place, and at the row's start.
 use Rattle.std.proofs.Common.{◌≡◌, length, replicate, arith, rules}
 use Rattle.patterns.proofs.Chains.{filled, indexed}
-use Rattle.patterns.proofs.index.build.Goals as goal
+use Rattle.patterns.proofs.index.write.Goals as goal
 
 pub loop-place-init : goal.loop-place-init
 loop-place-init c =
