@@ -11,6 +11,7 @@ pub mod Parts
 pub mod Tidying
 pub mod Open
 pub mod Endings
+pub mod LastEntries
 pub mod Voids
 pub mod CleanSteps
 pub mod Cleaned

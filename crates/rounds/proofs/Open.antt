@@ -1,6 +1,5 @@
 -- A row of entries read on by one, where the open clause begins at `start`.
-use Rattle.std.proofs.Common.{◌≡◌, ◌∙◌, sym, ap, ℕ, ◌+◌, ◌-◌, ◌<◌, ◌≤◌, List, ◌∷◌, map, length, get_or, take, drop, arith, ℤ, pos, SFits, w32, to_z, of_z}
-use Rattle.std.proofs.lemmas.Int.{to_z-of_z}
+use Rattle.std.proofs.Common.{◌≡◌, ◌∙◌, sym, ap, ℕ, ◌+◌, ◌-◌, ◌<◌, ◌≤◌, List, ◌∷◌, map, length, get_or, take, drop, arith, ℤ, pos}
 use Rattle.std.proofs.lemmas.List.{drop_more}
 use Rattle.std.proofs.lemmas.List.Edits.{between_more}
 use Rattle.std.proofs.lemmas.List.{map_push}
@@ -12,13 +11,6 @@ use Rattle.tables.proofs.Clauses.{clause_ends, clause_grows}
 -- The literals of the open clause.
 abbrev pub open_part : List ℤ → ℕ → ℕ → List ℕ
 open_part row start place = map literal (take (place - start) (drop start row))
-
--- What a test of an entry says.
-pub is_end : (z : ℤ) → SFits w32 z → of_z w32 z ≡ 0 → z ≡ pos 0
-is_end z f e = sym (to_z-of_z w32 z f) ∙ ap (to_z w32) e
-
-pub no_end : (z : ℤ) → (of_z w32 z ≡ 0 → ⊥) → z ≡ pos 0 → ⊥
-no_end z h e = h (ap (of_z w32) e)
 
 module _ (row : List ℤ) (start place : ℕ) (k : place < length row) where
   pub open_ends : get_or row place (pos 0) ≡ pos 0

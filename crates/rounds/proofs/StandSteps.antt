@@ -9,6 +9,8 @@ use Rattle.tables.specs.Literal.{literal, var, neg, opp}
 use Rattle.tables.proofs.Literals.{opp_is}
 use Rattle.rules.specs.Forced.{marked}
 use Rattle.rules.specs.Pairs.{stands, replace, alone, starting, give_way, meet, join}
+use Rattle.settling.proofs.Links.{starting_size as first_size}
+use Rattle.settling.proofs.Bound.{meet_size}
 use Rattle.rounds.specs.Pairs.{Coded}
 
 -- A map in place: the places before i are written.
@@ -105,15 +107,6 @@ join_coded s c w g h =
     meet_coded (replace s (get_or c 0 0)) (opp (replace s (get_or c 1 0))) s (replace_coded s (get_or c 0 0) w g) (opp_within (length s) (replace s (get_or c 1 0)) (replace_coded s (get_or c 1 0) w h)) w
 
 -- The row keeps its length.
-meet_size : (a b : ℕ) (s : List ℕ) → length (meet a b s) ≡ length s
-unfolding meet
-meet_size a b s = go (eqb (var a) (var b)) (ltb (var a) (var b))
-  where
-    go : (p q : Bool) → length (cond p s (cond q (map (give_way a b) s) (map (give_way b a) s))) ≡ length s
-    go true q = refl
-    go false true = length-map s (give_way a b)
-    go false false = length-map s (give_way b a)
-
 pub join_size : (s c : List ℕ) → length (join s c) ≡ length s
 unfolding join
 join_size s c = meet_size _ _ s
@@ -156,10 +149,9 @@ range_within a (suc k) =
     (All-weaker (λ v. (a + 1 ≤ v) × (v < a + 1 + k)) (λ v. (a ≤ v) × (v < a + suc k)) (λ v h. (omega arith, omega arith)) (range_with_len (a + 1) k) (range_within (a + 1) k))
 
 pub starting_size : (s m : List ℕ) (n : ℕ) → 1 ≤ n → s ≡ starting (n - 1) m → length s ≡ n
-unfolding starting
 starting_size s m n h e =
     let more : suc (n - 1) ≡ n = omega arith in
-    ap length e ∙ ap suc (length-map-range_with_len (alone m) 1 (n - 1)) ∙ more
+    ap length e ∙ first_size (n - 1) m ∙ more
 
 pub leaders_size : (first s m : List ℕ) (cs : List (List ℕ)) (n : ℕ) → 1 ≤ n → first ≡ starting (n - 1) m → s ≡ fold join first cs → length s ≡ n
 leaders_size first s m cs n h e f = ap length f ∙ joined_size first cs ∙ starting_size first m n h e

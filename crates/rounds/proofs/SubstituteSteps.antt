@@ -1,16 +1,14 @@
 -- Laws of substitution in a row of entries.
-use Rattle.std.proofs.Common.{◌≡◌, refl, sym, ap, subst, ◌∙◌, ℕ, suc, ◌+◌, ◌-◌, ⊎_elim, ◌<◌, ◌≤◌, List, [], ◌∷◌, ◌++◌, length, get_or, set, take, drop, map, arith, ℤ, pos, Bool, true, false, eqb}
-use mathlib.Core.List.Memᴰ
-use mathlib.Core.List.{Memᴰ}
+use Rattle.std.proofs.Common.{◌≡◌, refl, sym, ap, subst, ◌∙◌, ℕ, ◌+◌, ⊎_elim, ◌<◌, ◌≤◌, List, [], ◌∷◌, ◌++◌, length, get_or, set, take, drop, map, arith, ℤ, pos, Bool, true, false, eqb}
 use borrow.Author.Tests.{eqb-true, eqb-false, eq-eqb, ne_eqb}
 use Rattle.std.proofs.lemmas.List.{map_push, length-map, get_or-map, get_or_past}
-use Rattle.std.proofs.lemmas.List.Elements.{All-head, All-tail, All-map, All-nil, All-cons, All-weaker}
+use Rattle.std.proofs.lemmas.List.Elements.{All-head, All-tail, All-map}
 use Rattle.std.proofs.lemmas.Bool.{cases_lt}
 use Rattle.std.specs.List.{All}
 use Rattle.tables.specs.Literal.{literal, var}
 use Rattle.tables.specs.Clause.{clauses_from, clauses}
 use Rattle.tables.proofs.Literals.{literal-entry, literal_one}
-use Rattle.tables.proofs.Clauses.{clause_ends, clause_grows, All as EachLiteral}
+use Rattle.tables.proofs.Clauses.{clause_ends, clause_grows}
 use Rattle.rules.specs.Pairs.{replace}
 use Rattle.rounds.specs.Substitute.{substituted, Live}
 use Rattle.rounds.specs.Pairs.{Coded}
@@ -87,60 +85,3 @@ pub row_inside : (s : List ℕ) (row new : List ℤ) → Coded s → All (λ e. 
 row_inside s row new c w v e =
     subst (All (λ e. var (literal e) < length s)) (sym e)
     (All-map (λ e. var (literal e) < length s) (substituted s) row (λ k d i. one_inside s (get_or row k d) c (w k d i) (v k d i)))
-
--- Where the last entry is a zero, what holds of the literals of the clauses holds of every entry but the zeros.
-abbrev pub LastEnds : List ℤ → Type 0
-LastEnds row = get_or row (length row - 1) (pos 0) ≡ pos 0
-
-ended_tail : (z : ℤ) (zs : List ℤ) → LastEnds (z ∷ zs) → LastEnds zs × ((literal z ≡ 0 → ⊥) → 0 < length zs)
-ended_tail z [] e = (refl, λ n. absurd (n (ap literal e)))
-ended_tail z (y ∷ ys) e =
-    let more : suc (suc (length ys)) - 1 ≡ suc (length ys) = omega arith in
-    let less : suc (length ys) - 1 ≡ length ys = omega arith in
-    (rw less (rw more at e), λ n. omega arith)
-
--- b: the literals of the open clause.
-abbrev Reached : (ℕ → Type 0) → List ℕ → List ℤ → Type 0
-Reached P b row = All (λ e. 2 ≤ literal e → P (literal e)) row × ((l : ℕ) → Memᴰ l b → 0 < length row → P l)
-
-one_entry : (P : ℕ → Type 0) (b : List ℕ) (z : ℤ) (zs : List ℤ) → ((literal z ≡ 0 → ⊥) → 0 < length zs)
-    → ((d : List ℕ) → EachLiteral P (clauses_from d zs) → Reached P d zs) → EachLiteral P (clauses_from b (z ∷ zs)) → Reached P b (z ∷ zs)
-one_entry P b z zs more rest h = go (eqb (literal z) 0) refl
-  where
-    go : (t : Bool) → eqb (literal z) 0 ≡ t → Reached P b (z ∷ zs)
-    go true q =
-        let e = eqb-true (literal z) 0 q in
-        let g = subst (EachLiteral P) (clause_ends b z zs e) h in
-        let r = rest [] (λ c i. g c (Memᴰ.tail i)) in
-        (All-cons (λ e. 2 ≤ literal e → P (literal e)) z zs (λ w. absurd (no e w)) r.0, λ l m i. g b (Memᴰ.head refl) l m)
-      where
-        no : literal z ≡ 0 → 2 ≤ literal z → ⊥
-        no e w = omega arith
-    go false q =
-        let e = eqb-false (literal z) 0 q in
-        let r = rest (b ++ (literal z ∷ [])) (subst (EachLiteral P) (clause_grows b z zs e) h) in
-        (All-cons (λ e. 2 ≤ literal e → P (literal e)) z zs (λ w. r.1 (literal z) (Memᴰ.append_right b (Memᴰ.head refl)) (more e)) r.0, λ l m i. r.1 l (Memᴰ.append_left (literal z ∷ []) m) (more e))
-
-every_entry : (P : ℕ → Type 0) (row : List ℤ) → LastEnds row → (b : List ℕ) → EachLiteral P (clauses_from b row) → Reached P b row
-every_entry P [] e b h = (All-nil (λ e. 2 ≤ literal e → P (literal e)), λ l m i. absurd (no i))
-  where
-    no : 0 < 0 → ⊥
-    no i = omega arith
-every_entry P (z ∷ zs) e b h = let t = ended_tail z zs e in one_entry P b z zs t.1 (every_entry P zs t.0) h
-
--- What a caller knows of the clauses, as facts on the entries: that the replaced clauses speak of variables from 1 on, and
--- that the clauses speak of variables up to n.
-live_clauses : (s : List ℕ) (cs : List (List ℕ)) → EachLiteral (λ l. 1 ≤ var l) (map (map (replace s)) cs) → EachLiteral (λ l. 2 ≤ replace s l) cs
-live_clauses s cs h c i l j =
-    let one = h (map (replace s) c) (Memᴰ.map (map (replace s)) i) (replace s l) (Memᴰ.map (replace s) j) in omega arith
-
-pub live_entries : (s : List ℕ) (row : List ℤ) → LastEnds row → EachLiteral (λ l. 1 ≤ var l) (map (map (replace s)) (clauses row)) → All (Live s) row
-unfolding clauses
-live_entries s row e h = (every_entry (λ l. 2 ≤ replace s l) row e [] (live_clauses s (clauses row) h)).0
-
-pub inside_entries : (n : ℕ) (row : List ℤ) → LastEnds row → EachLiteral (λ l. var l ≤ n) (clauses row) → All (λ e. var (literal e) < suc n) row
-unfolding clauses
-inside_entries n row e h = All-weaker (λ e. 2 ≤ literal e → var (literal e) ≤ n) (λ e. var (literal e) < suc n) low row (every_entry (λ l. var l ≤ n) row e [] h).0
-  where
-    low : (e : ℤ) → (2 ≤ literal e → var (literal e) ≤ n) → var (literal e) < suc n
-    low e w = ⊎_elim (λ l. omega arith) (λ l. let u = w l in omega arith) (cases_lt (literal e) 2)

@@ -7,7 +7,8 @@ use Rattle.tables.specs.Clause.{clauses_from, clauses}
 use Rattle.rules.specs.Clean.{clean_step, clean}
 use Rattle.rounds.specs.Ended.{left_open}
 use Rattle.rounds.proofs.Parts.{same_further}
-use Rattle.rounds.proofs.Open.{open_part, is_end, no_end}
+use Rattle.tables.proofs.Entries.{is_end, no_end}
+use Rattle.rounds.proofs.Open.{open_part}
 use Rattle.rounds.proofs.Cleaned.{same_part, same_entry, clean_ends, clean_grows, whole_grows, none_open}
 use Rattle.rounds.proofs.clean.clean.Goals as goal
 use Rattle.rounds.proofs.clean.clean.Goals.{then-row-end-eq0, else-row-end-eq0}

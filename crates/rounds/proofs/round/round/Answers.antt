@@ -10,7 +10,8 @@ use Rattle.settling.proofs.Round.{s}
 use Rattle.rounds.specs.Substitute.{Live}
 use Rattle.rounds.specs.Pairs.{found}
 use Rattle.rounds.proofs.StandSteps.{starting_size, leaders_size}
-use Rattle.rounds.proofs.RoundSteps.{all_inside, row_inside, row_live, round_ends, round_stuck, ends_by, kept_are, leaders_are, ended_stays}
+use Rattle.rounds.proofs.RoundSteps.{all_inside, row_inside, row_live, round_ends, round_stuck, ends_by, kept_are, leaders_are}
+use Rattle.rounds.proofs.LastEntries.{ended_stays}
 use Rattle.rounds.proofs.round.round.Goals as goal
 
 pub returns-then-contradicts-clause-is : goal.returns-then-contradicts-clause-is
