@@ -11,12 +11,12 @@ use Rattle.rules.specs.Clean.{clean}
 use Rattle.rules.specs.Pairs.{pairs, stands, replace, starting, leaders, torn, join}
 use Rattle.rules.specs.Rounds.{Round, stuck, ended, goes_on, paired, cleaned, round, pinned}
 use Rattle.settling.proofs.Round.{Good, ds, s, st', ds_live, next_good}
-use Rattle.rounds.specs.Ended.{Ended}
-use Rattle.rounds.specs.Substitute.{Live}
-use Rattle.rounds.specs.Pairs.{found}
-use Rattle.rounds.specs.declared.pairs.Pairs.{Pairs}
-use Rattle.rounds.specs.declared.pairs.Pairs.TheVariants.{NoPair, Torn, Joined}
-use Rattle.rounds.proofs.LastEntries.{LastEnds, each_entry, inside_entries, ended_last}
+use Rattle.cleaning.specs.Ended.{Ended}
+use Rattle.pairing.specs.Substitute.{Live}
+use Rattle.pairing.specs.Pairs.{found}
+use Rattle.pairing.specs.declared.pairs.Pairs.{Pairs}
+use Rattle.pairing.specs.declared.pairs.Pairs.TheVariants.{NoPair, Torn, Joined}
+use Rattle.cleaning.proofs.LastEntries.{LastEnds, each_entry, inside_entries, ended_last}
 use Rattle.rounds.proofs.PinSteps.{clean_pinned}
 
 -- What is known of the replaced clauses, that they speak of variables from 1 on, as a fact on the entries.

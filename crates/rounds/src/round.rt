@@ -3,14 +3,14 @@ ghost use Rattle.std.specs.Prelude.{◌≡◌, ◌+◌, ◌*◌, ◌≤◌, leng
 ghost use Rattle.tables.specs.Sizes.{most_variables, most_entries};
 ghost use Rattle.rules.specs.Rounds.{round, pinned};
 ghost use Rattle.settling.proofs.Round.{Good};
-ghost use Rattle.rounds.specs.Ended.{Ended};
+ghost use Rattle.cleaning.specs.Ended.{Ended};
 ghost use Rattle.rounds.specs.Rounds.{Turns, kept_of};
 
-use crate::clean::clean;
-use crate::contradiction::contradicts;
-use crate::pairs::{Pairs, join_pairs};
-use crate::stands::Stands;
-use crate::substitute::substitute;
+use cleaning::clean::clean;
+use forcing::contradiction::contradicts;
+use pairing::pairs::{Pairs, join_pairs};
+use pairing::stands::Stands;
+use pairing::substitute::substitute;
 
 /// How a round ends.
 #[derive(Clone, Copy, Debug, PartialEq, Eq)]

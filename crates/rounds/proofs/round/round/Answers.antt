@@ -2,16 +2,16 @@
 use Rattle.std.proofs.Common.{◌≡◌, ◌∙◌, refl, sym, ap, subst, map, length, take, drop, arith}
 use Rattle.std.specs.List.{All}
 use Rattle.std.proofs.lemmas.List.{take_at, length-take-le}
-use Rattle.rounds.specs.Ended.{Ended}
+use Rattle.cleaning.specs.Ended.{Ended}
 use Rattle.tables.specs.Clause.{clauses}
 use Rattle.rules.specs.Pairs.{pairs, replace}
 use Rattle.rules.specs.Rounds.{pinned}
 use Rattle.settling.proofs.Round.{s}
-use Rattle.rounds.specs.Substitute.{Live}
-use Rattle.rounds.specs.Pairs.{found}
-use Rattle.rounds.proofs.StandSteps.{starting_size, leaders_size}
+use Rattle.pairing.specs.Substitute.{Live}
+use Rattle.pairing.specs.Pairs.{found}
+use Rattle.pairing.proofs.StandSteps.{starting_size, leaders_size}
 use Rattle.rounds.proofs.RoundSteps.{all_inside, row_inside, row_live, round_ends, round_stuck, ends_by, kept_are, leaders_are}
-use Rattle.rounds.proofs.LastEntries.{ended_stays}
+use Rattle.cleaning.proofs.LastEntries.{ended_stays}
 use Rattle.rounds.proofs.round.round.Goals as goal
 
 pub returns-then-contradicts-clause-is : goal.returns-then-contradicts-clause-is
