@@ -7,11 +7,11 @@ ghost use Rattle.rules.specs.Pairs.{starting};
 ghost use Rattle.rules.specs.Rounds.{rounds, outcome, pinned};
 ghost use Rattle.rules.specs.Pins.{out_of_range};
 ghost use Rattle.settling.proofs.Round.{Good};
-ghost use Rattle.rounds.specs.Ended.{Ended};
+ghost use Rattle.cleaning.specs.Ended.{Ended};
 ghost use Rattle.rounds.specs.Rounds.{Settles};
 
 use crate::round::{Turn, round};
-use crate::stands::Stands;
+use pairing::stands::Stands;
 use tables::numbers::Refusal;
 use tables::sizes::{LITERAL_NUMBERS, VARIABLE_NUMBERS};
 
@@ -62,7 +62,7 @@ fn run(
     let mut entries = entries;
     let mut pins = pins;
     for number in 1..n + 2 {
-        match round(n, row, entries, pins, marks, all, stands) {
+        match round(n, &mut row[..entries], pins, marks, all, stands) {
             Turn::Stuck => return Err(Refusal::Contradiction(number)),
             Turn::Over(left) => {
                 return Ok(Settled {
