@@ -1,7 +1,6 @@
 -- Laws of the index: where a row's clauses of one key are.
-use Rattle.std.proofs.Common.{◌≡◌, ◌∙◌, refl, sym, ap, subst, ℕ, ◌+◌, ◌*◌, ◌%◌, ◌<◌, ◌≤◌, ⊎_elim, List, [], ◌∷◌, ◌++◌, map, length, get_or, set, drop, replicate, ℤ, pos, eqb, filter, arith, ne_eqb, eq-eqb, get_or-set_other, get_or-set_same, length-set, append_assoc, SFits, w32, to_z, of_z}
+use Rattle.std.proofs.Common.{◌≡◌, ◌∙◌, refl, sym, ap, subst, ℕ, ◌+◌, ◌*◌, ◌%◌, ◌<◌, ◌≤◌, ⊎_elim, List, [], ◌∷◌, ◌++◌, map, length, get_or, set, drop, replicate, ℤ, pos, eqb, filter, arith, ne_eqb, eq-eqb, get_or-set_other, get_or-set_same, length-set, append_assoc}
 use Rattle.std.proofs.lemmas.Bool.{cases_eq}
-use Rattle.std.proofs.lemmas.Int.{to_z-of_z}
 use Rattle.std.proofs.lemmas.List.{drop_all, drop_more, get_or-replicate, length-replicate, append-nil}
 use Rattle.tables.specs.Literal.{literal, var}
 use Rattle.tables.specs.Clause.{clauses_from, clauses}
@@ -183,10 +182,3 @@ indexed row k heads links now b old = record {
 
     other : (j : ℕ) → j < 1024 → (j ≡ k → ⊥) → Leads row j row (get_or (set heads k 0) j 0)
     other j l n = rw (get_or-set_other heads k j 0 0 n) (record { alike = other_key j row (λ q. n (sym (now.open_key ∙ q))) (parts row) ∙ (now.leads j l).alike; keyed = (now.leads j l).keyed })
-
--- What a test of an entry says.
-pub is_end : (z : ℤ) → SFits w32 z → of_z w32 z ≡ 0 → z ≡ pos 0
-is_end z f e = sym (to_z-of_z w32 z f) ∙ ap (to_z w32) e
-
-pub no_end : (z : ℤ) → (of_z w32 z ≡ 0 → ⊥) → z ≡ pos 0 → ⊥
-no_end z h e = h (ap (of_z w32) e)

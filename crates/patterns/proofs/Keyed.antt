@@ -5,9 +5,9 @@ use Rattle.std.proofs.lemmas.Bool.{cond_both, false_from_ne_true, eqb-false}
 use Rattle.ways.specs.Ways.{same, among}
 use Rattle.tables.specs.Literal.{var}
 use Rattle.rules.specs.Patterns.{first_of, group}
+use Rattle.rules.proofs.Groups.{group_vars}
 use Rattle.patterns.specs.Index.{key, with_key}
 use Rattle.patterns.specs.Seen.{see}
-use Rattle.patterns.proofs.Whole.{group_vars}
 
 first_more : (ds : List (List ℕ)) (c : List ℕ) (cs es : List (List ℕ)) → first_of ds cs ≡ first_of ds es → first_of ds (c ∷ cs) ≡ first_of ds (c ∷ es)
 unfolding first_of

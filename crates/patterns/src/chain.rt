@@ -4,7 +4,7 @@ ghost use Rattle.tables.specs.Literal.{literal};
 ghost use Rattle.tables.specs.Clause.{clauses};
 ghost use Rattle.patterns.specs.Index.{Begins};
 
-use crate::index::Index;
+use crate::index::{Index, KEYS};
 use tables::rows::clauses_of;
 
 /// The clauses of a key that a walk still has to come to, in the row's order.
@@ -22,7 +22,7 @@ impl<'a> Index<'a> {
 
     /// The clauses of a key, each without its ending zero.
     pub fn chain(&self, key: usize) -> Chain<'a>
-        requires { key < 1024 }
+        requires { key < KEYS }
         ensures { to_come result ≡ with_key key (clauses self.now.row.now) }
     {
         Chain {

@@ -1,9 +1,10 @@
 // An index of a row's clauses by a key of their variables: chains through the row, from each key's first clause on.
 ghost use Rattle.std.specs.Prelude.{◌≡◌, ◌+◌, ◌*◌, ◌%◌, ◌<◌, ◌≤◌, [], ◌∷◌, map, length};
-ghost use Rattle.tables.specs.Literal.{literal, var};
+ghost use Rattle.tables.specs.Literal.{literal};
 ghost use Rattle.patterns.specs.Index.{Heads, Indexed, key};
 
 use tables::literal::{literal, var};
+use tables::sizes::MOST_ENTRIES;
 
 /// How many keys there are.
 pub const KEYS: usize = 1024;
@@ -22,9 +23,9 @@ pub struct Index<'a> {
 
 /// The key of a clause that has one variable more before those of this key.
 fn key_with(key: usize, variable: usize) -> usize
-    requires { key < 1024 }
-    ensures is { result ≡ (31 * key + variable) % 1024 }
-    ensures within { result < 1024 }
+    requires { key < KEYS }
+    ensures is { result ≡ (31 * key + variable) % KEYS }
+    ensures within { result < KEYS }
 {
     (31 * key + variable % KEYS) % KEYS
 }
@@ -33,7 +34,7 @@ fn key_with(key: usize, variable: usize) -> usize
 #[tactic(auto, using(crate::proofs::Chains::key_start, crate::proofs::Chains::key_back), unfolding(crate::proofs::Chains::key_before))]
 pub fn key(clause: &[i32]) -> usize
     ensures is { result ≡ key (map literal clause.now) }
-    ensures within { result < 1024 }
+    ensures within { result < KEYS }
 {
     let mut key = 0;
     for &entry in clause.iter().rev() {
@@ -46,7 +47,7 @@ pub fn key(clause: &[i32]) -> usize
 #[tactic(auto, unfolding(crate::specs::Index::key))]
 pub fn key_of_two(x: usize, y: usize) -> usize
     ensures is { result ≡ key (x ∷ y ∷ []) }
-    ensures within { result < 1024 }
+    ensures within { result < KEYS }
 {
     key_with(key_with(0, var(y)), var(x))
 }
@@ -54,11 +55,11 @@ pub fn key_of_two(x: usize, y: usize) -> usize
 /// The key at a place, from that behind it: a zero ends the clause that starts behind it.
 fn read_back(row: &[i32], place: usize, key: usize, heads: &mut [u16]) -> usize
     requires inside { place < length row.now }
-    requires short { length row.now ≤ 16384 }
-    requires small { key < 1024 }
+    requires short { length row.now ≤ MOST_ENTRIES }
+    requires small { key < KEYS }
     requires heads { Heads row.now (place + 1) key heads.old }
     ensures heads { Heads row.now place result heads.new }
-    ensures within { result < 1024 }
+    ensures within { result < KEYS }
 {
     if row[place] == 0 {
         heads[key] = (place + 1) as u16;
@@ -70,8 +71,8 @@ fn read_back(row: &[i32], place: usize, key: usize, heads: &mut [u16]) -> usize
 
 /// Writes the row's index.
 fn write(row: &[i32], heads: &mut [u16], links: &mut [u16])
-    requires short { length row.now ≤ 16384 }
-    requires keys { length heads.old ≡ 1024 }
+    requires short { length row.now ≤ MOST_ENTRIES }
+    requires keys { length heads.old ≡ KEYS }
     requires room { length row.now ≤ length links.old }
     ensures { Indexed row.now heads.new links.new }
 {
@@ -88,8 +89,8 @@ fn write(row: &[i32], heads: &mut [u16], links: &mut [u16])
 impl<'a> Index<'a> {
     /// The row's index, written into the lent rows of places.
     pub fn build(row: &'a [i32], heads: &'a mut [u16], links: &'a mut [u16]) -> Index<'a>
-        requires short { length row.now ≤ 16384 }
-        requires keys { length heads.old ≡ 1024 }
+        requires short { length row.now ≤ MOST_ENTRIES }
+        requires keys { length heads.old ≡ KEYS }
         requires room { length row.now ≤ length links.old }
         ensures { result.row.now ≡ row.now }
     {

@@ -1,42 +1,21 @@
 // Parity groups: whether a clause is its group's first in the row, and whether the row has all of the group.
-ghost use Rattle.std.specs.Prelude.{◌≡◌, ◌&&◌, ◌<◌, ◌≤◌, ℕ, true, eqb, map, length};
+ghost use Rattle.std.specs.Prelude.{◌≡◌, ◌&&◌, ◌<◌, ◌≤◌, ℕ, map, length};
 ghost use Rattle.std.specs.Bool.{OnTrue};
-ghost use Rattle.std.specs.List.{fold, list_all, list_any};
+ghost use Rattle.std.specs.List.{list_all};
 ghost use Rattle.ways.specs.Ways.{among, same};
-ghost use Rattle.tables.specs.Literal.{literal, var};
+ghost use Rattle.tables.specs.Literal.{literal};
 ghost use Rattle.tables.specs.Clause.{clauses};
 ghost use Rattle.rules.specs.Patterns.{anchors, first_of, found, group, parity};
 ghost use Rattle.patterns.specs.Seen.{see, seen};
 
 use crate::index::{Index, key};
-use crate::signs::{is_odd, signs};
-use tables::clause::is_same;
-use tables::literal::{literal, var};
-
-/// Whether two entries are of one variable.
-fn is_of_variable(entry: i32, other: i32) -> bool
-    ensures { result ≡ eqb (var (literal entry)) (var (literal other)) }
-{
-    var(literal(entry)) == var(literal(other))
-}
-
-/// Whether two clauses are over the same variables, one by one.
-#[tactic(auto, using(crate::proofs::Same::vars_longer))]
-fn has_variables_of(clause: &[i32], anchor: &[i32]) -> bool
-    ensures is { result ≡ same (map var (map literal clause.now)) (map var (map literal anchor.now)) }
-    ensures long { OnTrue result (length clause.now ≡ length anchor.now) }
-{
-    clause.len() == anchor.len()
-        && clause
-            .iter()
-            .zip(anchor)
-            .all(|(&entry, &other)| is_of_variable(entry, other))
-}
+use crate::signs::{MOST_GROUPED, is_odd, signs};
+use tables::clause::{has_variables_of, is_same};
 
 /// Whether the clause is of the anchor's group: over the same variables, with as many negative literals, odd or even.
-#[tactic(auto, using(crate::proofs::Whole::group_by_odd, crate::proofs::Whole::other_vars))]
+#[tactic(auto, using(rules::proofs::Groups::group_by_odd, rules::proofs::Groups::other_vars))]
 fn is_alike(clause: &[i32], anchor: &[i32]) -> bool
-    requires { length anchor.now ≤ 5 }
+    requires { length anchor.now ≤ MOST_GROUPED }
     ensures is { result ≡ among (map literal clause.now) (group (map literal anchor.now)) }
     ensures long { OnTrue result (length clause.now ≡ length anchor.now) }
 {
@@ -44,9 +23,9 @@ fn is_alike(clause: &[i32], anchor: &[i32]) -> bool
 }
 
 /// The patterns seen, with the clause's own if it is of the anchor's group.
-#[tactic(auto, unfolding(crate::specs::Seen::see), using(crate::proofs::Same::shifted))]
+#[tactic(auto, unfolding(crate::specs::Seen::see), using(std::proofs::lemmas::Nat::one_shl))]
 fn see(clause: &[i32], anchor: &[i32], seen: u32) -> u32
-    requires { length anchor.now ≤ 5 }
+    requires { length anchor.now ≤ MOST_GROUPED }
     ensures { result ≡ see (map literal anchor.now) seen (map literal clause.now) }
 {
     if is_alike(clause, anchor) {
@@ -59,7 +38,7 @@ fn see(clause: &[i32], anchor: &[i32], seen: u32) -> u32
 /// The sign patterns of the anchor's group that the row has: a walk along the chain of the anchor's key.
 #[tactic(auto, using(crate::proofs::Keyed::fold_keyed))]
 fn patterns_seen(index: &Index, anchor: &[i32]) -> u32
-    requires few { length anchor.now ≤ 5 }
+    requires few { length anchor.now ≤ MOST_GROUPED }
     ensures { result ≡ seen (clauses index.now.row.now) (map literal anchor.now) }
 {
     let mut seen = 0;
@@ -73,7 +52,7 @@ fn patterns_seen(index: &Index, anchor: &[i32]) -> u32
 #[tactic(auto, using(crate::proofs::Whole::whole_row))]
 fn is_whole(index: &Index, anchor: &[i32]) -> bool
     requires some { 0 < length anchor.now }
-    requires few { length anchor.now ≤ 5 }
+    requires few { length anchor.now ≤ MOST_GROUPED }
     ensures { result ≡ list_all (λ d. among d (clauses index.now.row.now)) (group (map literal anchor.now)) }
 {
     patterns_seen(index, anchor).count_ones() == 1 << (anchor.len() - 1)
@@ -83,7 +62,7 @@ fn is_whole(index: &Index, anchor: &[i32]) -> bool
 #[tactic(auto, using(crate::proofs::Keyed::first_keyed, crate::proofs::Whole::first_of_none), unfolding(rules::specs::Patterns::first_of))]
 fn is_first(index: &Index, anchor: &[i32]) -> bool
     requires some { 0 < length anchor.now }
-    requires few { length anchor.now ≤ 5 }
+    requires few { length anchor.now ≤ MOST_GROUPED }
     ensures { result ≡ same (first_of (group (map literal anchor.now)) (clauses index.now.row.now)) (map literal anchor.now) }
 {
     for clause in index.chain(key(anchor)) {
@@ -100,5 +79,5 @@ pub fn parity_found(index: &Index, anchor: &[i32]) -> bool
     requires some { 0 < length anchor.now }
     ensures { (o : ℕ) → result ≡ (anchors (clauses index.now.row.now) (map literal anchor.now) && found (clauses index.now.row.now) (parity (map literal anchor.now) o)) }
 {
-    anchor.len() < 6 && is_first(index, anchor) && is_whole(index, anchor)
+    anchor.len() <= MOST_GROUPED && is_first(index, anchor) && is_whole(index, anchor)
 }

@@ -1,23 +1,15 @@
 // The clauses of two literals that an and-form has beside its anchor: the opposite of the output with the opposite of each
 // other literal.
-ghost use Rattle.std.specs.Prelude.{◌≡◌, ◌≢◌, ◌<◌, ◌∷◌, [], map};
-ghost use Rattle.ways.specs.Ways.{among, same};
-ghost use Rattle.tables.specs.Literal.{literal};
+ghost use Rattle.std.specs.Prelude.{◌≡◌, ◌≢◌, ◌∷◌, []};
+ghost use Rattle.ways.specs.Ways.{among};
 ghost use Rattle.tables.specs.Clause.{clauses};
 ghost use Rattle.rules.specs.Patterns.{side};
 
 use crate::index::{Index, key_of_two};
-use tables::literal::{literal, opposite};
-
-/// Whether the clause is that of two literals.
-fn is_clause_of(clause: &[i32], x: usize, y: usize) -> bool
-    ensures { result ≡ same (x ∷ y ∷ []) (map literal clause.now) }
-{
-    clause.len() == 2 && x == literal(clause[0]) && y == literal(clause[1])
-}
+use rules::sides::side;
+use tables::clause::is_clause_of;
 
 /// Whether the row has the clause of two literals: a walk along the chain of its key.
-#[tactic(auto, using(crate::proofs::Keyed::among_keyed))]
 fn has_clause(index: &Index, x: usize, y: usize) -> bool
     ensures { result ≡ among (x ∷ y ∷ []) (clauses index.now.row.now) }
 {
@@ -27,16 +19,10 @@ fn has_clause(index: &Index, x: usize, y: usize) -> bool
 }
 
 /// Whether the row has the clause of the opposites of two literals.
-#[tactic(auto, using(crate::proofs::Sides::side_rises, crate::proofs::Sides::side_falls))]
 pub fn has_side(index: &Index, output: usize, other: usize) -> bool
-    requires differ { output ≢ other }
+    requires { output ≢ other }
     ensures { result ≡ among (side output other) (clauses index.now.row.now) }
 {
-    let x = opposite(output);
-    let y = opposite(other);
-    if x < y {
-        has_clause(index, x, y)
-    } else {
-        has_clause(index, y, x)
-    }
+    let (x, y) = side(output, other);
+    has_clause(index, x, y)
 }

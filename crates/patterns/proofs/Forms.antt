@@ -1,26 +1,12 @@
--- Laws of an and-form's clauses: each is of two literals, in their order, and the anchor is among the row's clauses itself.
-use Rattle.std.proofs.Common.{◌≡◌, ◌∙◌, refl, sym, ap, ℕ, ◌<◌, ◌≤◌, Bool, not, ◌&&◌, ◌||◌, List, [], ◌∷◌, eqb, filter, ⊎_elim, arith}
+-- An and-form is found where its clauses of two literals are: the anchor is among the row's clauses itself.
+use Rattle.std.proofs.Common.{◌≡◌, ◌∙◌, refl, sym, ap, ℕ, Bool, not, ◌&&◌, ◌||◌, List, [], ◌∷◌, eqb, filter, ⊎_elim}
 use mathlib.Core.List.{Memᴰ}
 use Rattle.std.specs.List.{list_all}
 use Rattle.std.proofs.lemmas.Bool.{cases_Bool}
 use Rattle.std.proofs.lemmas.List.Folds.{list_all-map}
 use Rattle.ways.specs.Ways.{among}
 use Rattle.ways.proofs.Members.{mem-among}
-use Rattle.tables.specs.Literal.{opp}
-use Rattle.tables.proofs.Literals.{opp-opp}
-use Rattle.rules.specs.Clean.{insert}
 use Rattle.rules.specs.Patterns.{others, side, and_form, found}
-
-opp_other : (o x : ℕ) → (o ≡ x → ⊥) → opp o ≡ opp x → ⊥
-opp_other o x h e = h (sym (opp-opp o) ∙ ap opp e ∙ opp-opp x)
-
-pub side_rises : (o x : ℕ) → opp o < opp x → side o x ≡ opp o ∷ opp x ∷ []
-unfolding side insert
-side_rises o x l = grind arith
-
-pub side_falls : (o x : ℕ) → (o ≡ x → ⊥) → opp x ≤ opp o → side o x ≡ opp x ∷ opp o ∷ []
-unfolding side insert
-side_falls o x h l = let n : opp o ≡ opp x → ⊥ = opp_other o x h in grind arith
 
 -- What is kept passes a test where each element passes it or is dropped.
 kept_all : {X : Type 0} (t d : X → Bool) (xs : List X) → list_all t (filter (λ x. not (d x)) xs) ≡ list_all (λ x. d x || t x) xs

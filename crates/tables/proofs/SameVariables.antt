@@ -1,10 +1,9 @@
--- Clauses are the same where their entries are, and over the same variables where they are one by one.
-use Rattle.std.proofs.Common.{◌≡◌, ◌∙◌, refl, sym, ap, ℕ, ◌+◌, ◌*◌, ◌%◌, ◌^◌, ◌<◌, ◌≤◌, Bool, true, false, ◌&&◌, eqb, List, [], ◌∷◌, map, length, get_or, drop, ℤ, pos, arith, ne_eqb, eq-eqb}
+-- Clauses are over the same variables where these are the same one by one.
+use Rattle.std.proofs.Common.{◌≡◌, ◌∙◌, refl, sym, ap, ℕ, false, ◌&&◌, eqb, List, [], ◌∷◌, map, length, ℤ, arith}
 use Rattle.std.specs.List.{list_all, zip}
 use Rattle.std.specs.Cmp.Lexicographic.{bytes_decides}
 use Rattle.std.proofs.lemmas.Bool.{false_from_ne_true}
-use Rattle.std.proofs.lemmas.List.{drop_all, drop_more, length-map}
-use Rattle.std.proofs.lemmas.Nat.{one_shl}
+use Rattle.std.proofs.lemmas.List.{length-map}
 use Rattle.ways.specs.Ways.{same}
 use Rattle.tables.specs.Literal.{literal, var}
 
@@ -23,6 +22,3 @@ vars_long xs = length-map (map literal xs) var ∙ length-map xs literal
 
 pub vars_longer : (xs ys : List ℤ) → (length xs ≡ length ys → ⊥) → same (vars xs) (vars ys) ≡ false
 vars_longer xs ys h = false_from_ne_true _ (λ e. h (sym (vars_long xs) ∙ ap length ((bytes_decides (vars xs) (vars ys)).0 e) ∙ vars_long ys))
-
-pub shifted : (s : ℕ) → s < 32 → 1 * 2 ^ s % 2 ^ 32 ≡ 2 ^ s
-shifted s h = one_shl s 32 h

@@ -1,12 +1,14 @@
 -- Laws of parity groups: which clauses are a group's, and how many it has.
 use Rattle.std.proofs.Common.{◌≡◌, ◌∙◌, refl, sym, subst, ℕ, suc, ◌+◌, ◌*◌, ◌^◌, Bool, true, false, not, ◌&&◌, ◌||◌, List, [], ◌∷◌, ◌++◌, map, length, eqb, ⊎_elim, rules, arith, ne_eqb, length-append}
+use Rattle.std.specs.Cmp.Lexicographic.{bytes_decides}
+use Rattle.std.proofs.lemmas.Bool.{and_parts}
 use Rattle.std.proofs.lemmas.List.{length-map}
 use Rattle.std.proofs.lemmas.List.Folds.{list_any-append}
-use Rattle.std.proofs.Math.Bool.{xor}
+use Rattle.std.proofs.Math.Bool.{beq, xor}
 use Rattle.ways.specs.Ways.{same, among}
 use Rattle.tables.specs.Literal.{var, neg}
 use Rattle.tables.proofs.Literals.{var_pos, var-neg, neg_pos, neg-neg, two_forms}
-use Rattle.rules.specs.Patterns.{signings, odd}
+use Rattle.rules.specs.Patterns.{signings, odd, group}
 
 -- Is a clause over these variables, with an odd or even number of negative literals?
 abbrev pub over : List ℕ → Bool → List ℕ → Bool
@@ -78,3 +80,21 @@ pub group_size : (v : ℕ) (vs : List ℕ) (b : Bool) → length (signings (v �
 group_size v [] b = size_one v b
 group_size v (w ∷ vs) b =
     rw (signings_cons v (w ∷ vs) b) (length-append (map (λ c. (2 * v) ∷ c) (signings (w ∷ vs) b)) _ ∙ rw (length-map (signings (w ∷ vs) b) (λ c. (2 * v) ∷ c), length-map (signings (w ∷ vs) (not b)) (λ c. (2 * v + 1) ∷ c), group_size w vs b, group_size w vs (not b)) (double_pow (length vs)))
+
+pub in_group : (c d : List ℕ) → among d (group c) ≡ over (map var c) (odd c) d
+unfolding group
+in_group c d = in_signings (map var c) (odd c) d
+
+pub group_vars : (c d : List ℕ) → among d (group c) ≡ true → map var d ≡ map var c
+group_vars c d e = (bytes_decides (map var d) (map var c)).0 (and_parts (same (map var d) (map var c)) (not (xor (odd d) (odd c))) (sym (in_group c d) ∙ e)).0
+
+-- Over the group's variables, the number of negative literals decides.
+xor_beq : (p q : Bool) → not (xor p q) ≡ beq p q
+unfolding xor
+xor_beq p q = search rules
+
+pub group_by_odd : (c d : List ℕ) → same (map var d) (map var c) ≡ true → beq (odd d) (odd c) ≡ among d (group c)
+group_by_odd c d h = sym (in_group c d ∙ rw (h) (xor_beq (odd d) (odd c)))
+
+pub other_vars : (c d : List ℕ) → same (map var d) (map var c) ≡ false → among d (group c) ≡ false
+other_vars c d h = in_group c d ∙ rw (h) refl
