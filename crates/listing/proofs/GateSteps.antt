@@ -1,8 +1,9 @@
 -- The lines of gates, step by step.
-use Rattle.std.proofs.Common.{◌≡◌, ◌∙◌, refl, sym, ap, ℕ, suc, ◌<◌, ◌&&◌, Bool, true, false, cond, not, eqb, ℤ, List, [], ◌∷◌, ◌++◌, map, filter, length, get_or, arith, append-nil, eq-eqb, ne_eqb, slice_range}
+use Rattle.std.proofs.Common.{◌+◌, ◌-◌, ◌≡◌, ◌∙◌, refl, sym, ap, ℕ, suc, ◌<◌, ◌&&◌, Bool, true, false, cond, not, eqb, ℤ, List, [], ◌∷◌, ◌++◌, map, filter, length, get_or, arith, append-nil, eq-eqb, ne_eqb, slice_range}
 use mathlib.Core.List.Memᴰ
 use mathlib.Core.List.{Memᴰ}
 use Rattle.std.specs.List.{flat_map, range_with_len}
+use Rattle.std.proofs.lemmas.Bool.{eqb-false}
 use Rattle.std.proofs.lemmas.List.{length-map}
 use Rattle.tables.specs.Literal.{literal, var}
 use Rattle.rules.specs.Patterns.{Gate, others}
@@ -14,8 +15,10 @@ use Rattle.gates.specs.Sites.{entries_of, gate_of, gates_of}
 use Rattle.gates.specs.Inputs.{input, inputs}
 use Rattle.gates.proofs.SiteLaws.{output_at}
 use Rattle.gates.proofs.SiteGates.{inputs_are}
-use Rattle.texts.proofs.LaySteps.{laid_none}
+use Rattle.texts.proofs.LaySteps.{laid_none, laid_behind}
 use Rattle.listing.specs.Apart.{Apart}
+use Rattle.listing.specs.Chains.{on_level}
+use Rattle.listing.proofs.ChainSteps.{left, Behind, only_these}
 use Rattle.listing.specs.Fields.{field, fields}
 
 -- The field of the input that stands for a literal of the anchor: none for the output's.
@@ -95,3 +98,22 @@ pub levels_of : (n : ℕ) (row : List ℤ) (sites : List Site)
     → flat_map (λ k. flat_map (λ v. flat_map (line_g k) (gates_at n (gates_of row sites) k v)) (range_with_len 1 n)) (range_with_len 1 (length sites)) ≡ lines_g n (gates_of row sites)
 unfolding lines_g
 levels_of n row sites = rw length-map refl
+
+-- A level's lines: those of the variables on it.
+pub level_only : (n level : ℕ) (gs : List Gate)
+    → flat_map (λ v. flat_map (line_g level) (gates_at n gs level v)) (range_with_len 1 n) ≡ flat_map (λ v. flat_map (line_g level) (gates_at n gs level v)) (on_level (levels n gs) level 1 n)
+level_only n level gs =
+    only_these (λ v. flat_map (line_g level) (gates_at n gs level v)) (λ u. eqb (get_or (levels n gs) u 0) level)
+    (λ u e. ap (flat_map (line_g level)) (other_level n level u gs (eqb-false (get_or (levels n gs) u 0) level e))) (range_with_len 1 n)
+
+-- One variable of the chain more.
+pub chain_on : (f : ℕ → List ℕ) (s t : Laid) (n : ℕ) (lv : List ℕ) (level v u : ℕ) → (v ≡ 0 → ⊥) → Behind n lv level (v + 1) u (on_level lv level (v + 1) (n - v)) → t ≡ lay s (f v)
+    → lay s (flat_map f (left n lv level v)) ≡ lay t (flat_map f (left n lv level u))
+unfolding left
+chain_on f s t n lv level v u d b e =
+    rw (ne_eqb v 0 d, e)
+    (sym (laid_behind s (f v) (flat_map f (on_level lv level (v + 1) (n - v)))) ∙ ap (λ us. lay (lay s (f v)) (flat_map f us)) b.rest)
+
+pub chain_ends : (f : ℕ → List ℕ) (s : Laid) (n : ℕ) (lv : List ℕ) (level v : ℕ) → v ≡ 0 → lay s (flat_map f (left n lv level v)) ≡ s
+unfolding left
+chain_ends f s n lv level v e = rw e (laid_none s)

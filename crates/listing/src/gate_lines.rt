@@ -1,7 +1,8 @@
 // The G lines: level after level, and on each the gates by rising output.
-ghost use Rattle.std.specs.Prelude.{◌≡◌, ◌<◌, cond, not, eqb, [], map, get_or, codes};
+ghost use Rattle.std.specs.Prelude.{◌≡◌, ◌<◌, ◌≤◌, cond, not, eqb, [], map, get_or, codes};
 ghost use Rattle.std.specs.List.{flat_map, range_with_len};
 ghost use Rattle.rules.specs.Kinds.{kind_row};
+ghost use Rattle.rules.specs.Circuit.{levels};
 ghost use Rattle.rules.specs.Listing.{input_field, line_g, gates_at, lines_g};
 ghost use Rattle.texts.specs.Laying.{laid, lay};
 ghost use Rattle.gates.specs.Sites.{Within, gate_of};
@@ -9,6 +10,7 @@ ghost use Rattle.gates.specs.Inputs.{input};
 ghost use Rattle.gates.specs.TakenGates.{gates_in};
 ghost use Rattle.listing.specs.Fields.{field, fields};
 
+use crate::chains::place_of;
 use crate::fields::{put_number_field, put_signed_field};
 use crate::survey::Survey;
 use filling::places::gate_for;
@@ -79,21 +81,12 @@ fn put_line_g(laying: &mut Laying, row: &[i32], site: Site, level: usize)
     laying.put(b"\n");
 }
 
-/// The level of a variable: 0 beyond the row.
-fn level_of(levels: &[u16], variable: usize) -> usize
-    ensures { result ≡ get_or levels.now variable 0 }
-{
-    levels.get(variable).map_or(0, |&level| usize::from(level))
-}
-
-/// Lays the line of the gate whose output the variable is, if there is one and it is on this level.
+/// Lays the line of the gate whose output a variable is, if there is one, on the variable's level.
 fn put_gate(laying: &mut Laying, survey: &Survey, level: usize, variable: usize)
+    requires { let e = survey.now.evening in get_or (levels e.n (gates_in e.taken)) variable 0 ≡ level }
     ensures { let e = survey.now.evening in
         laid laying.new ≡ lay (laid laying.old) (flat_map (line_g level) (gates_at e.n (gates_in e.taken) level variable)) }
 {
-    if level_of(survey.levels, variable) != level {
-        return;
-    }
     let taken = survey.evening.taken;
     if let Some(site) = gate_for(taken.sites, survey.places, variable) {
         put_line_g(laying, taken.row, site, level);
@@ -102,11 +95,14 @@ fn put_gate(laying: &mut Laying, survey: &Survey, level: usize, variable: usize)
 
 /// Lays the lines of the gates on a level.
 fn put_level(laying: &mut Laying, survey: &Survey, level: usize)
+    requires { level ≤ 1024 }
     ensures { let e = survey.now.evening in
         laid laying.new ≡ lay (laid laying.old) (flat_map (λ v. flat_map (line_g level) (gates_at e.n (gates_in e.taken) level v)) (range_with_len 1 e.n)) }
 {
-    for variable in 1..=survey.evening.n {
+    let mut variable = place_of(survey.firsts, level);
+    while variable != 0 {
         put_gate(laying, survey, level, variable);
+        variable = place_of(survey.nexts, variable);
     }
 }
 

@@ -1,6 +1,7 @@
 // The listing of a settled evening: one record a line.
 #![tactic(auto)]
 
+pub mod chains;
 pub mod clause_lines;
 pub mod evening;
 pub mod fields;

@@ -1,14 +1,17 @@
 // The listing as a whole.
-ghost use Rattle.std.specs.Prelude.{◌≡◌, ℕ, length};
+ghost use Rattle.std.specs.Prelude.{◌≡◌, ℕ, length, get_or};
 ghost use Rattle.tables.specs.Clause.{clauses};
 ghost use Rattle.rules.specs.Forced.{marked};
 ghost use Rattle.rules.specs.Taking.{is_output};
+ghost use Rattle.rules.specs.Circuit;
 ghost use Rattle.rules.specs.Listing.{line_b, listing};
 ghost use Rattle.texts.specs.Buffer.{overlay};
 ghost use Rattle.texts.specs.Laying.{laid, lay};
 ghost use Rattle.gates.specs.TakenGates.{gates_in};
 ghost use Rattle.filling.specs.Places.{IsPlaced};
+ghost use Rattle.listing.specs.Chains.{Chained};
 
+use crate::chains::chain;
 use crate::clause_lines::{count_residue, put_lines_r};
 use crate::evening::Evening;
 use crate::fields::put_numbers;
@@ -42,6 +45,19 @@ fn places_of(evening: &Evening) -> [u16; ROOM]
     let mut places = [0; ROOM];
     place_all(evening.taken.sites, &mut places);
     places
+}
+
+/// Chains the variables on each level.
+fn chain_levels(evening: &Evening, firsts: &mut [u16], nexts: &mut [u16])
+    requires levels_room { length firsts.old ≡ 1025 }
+    requires room { length nexts.old ≡ 1025 }
+    ensures { let e = evening.now in
+        Chained e.n (Circuit.levels e.n (gates_in e.taken)) firsts.new nexts.new }
+{
+    let mut room = [0; ROOM];
+    let by_variable = &mut room[..=evening.n];
+    levels(&evening.taken, by_variable);
+    chain(by_variable, evening.n, firsts, nexts);
 }
 
 /// Lays the B line: what there is of each.
@@ -92,14 +108,15 @@ pub fn put_listing(out: &mut [u8], evening: &Evening) -> usize
 {
     let outputs = outputs_of(evening);
     let places = places_of(evening);
-    let mut room = [0; ROOM];
-    let by_variable = &mut room[..=evening.n];
-    levels(&evening.taken, by_variable);
+    let mut firsts = [0; ROOM];
+    let mut nexts = [0; ROOM];
+    chain_levels(evening, &mut firsts, &mut nexts);
     let survey = Survey {
         evening: *evening,
         outputs: &outputs,
-        levels: by_variable,
         places: &places,
+        firsts: &firsts,
+        nexts: &nexts,
     };
     let mut laying = Laying { out, at: 0 };
     put_lines(&mut laying, &survey);

@@ -1,21 +1,13 @@
 -- The gate with the output, if there is one and it is on the level.
-use Rattle.std.proofs.Common.{◌≡◌, ◌∙◌, ap, sym, get_or}
+use Rattle.std.proofs.Common.{◌∙◌}
 use Rattle.texts.specs.Laying.{laid}
-use Rattle.rules.specs.Circuit.{levels}
 use Rattle.rules.specs.Listing.{gates_at}
 use Rattle.gates.specs.Sites.{Within, gate_of}
 use Rattle.gates.specs.TakenGates.{gates_in}
 use Rattle.filling.proofs.Filled.{all_mem}
 use Rattle.filling.proofs.AskSteps.{found, missing}
-use Rattle.listing.proofs.GateSteps.{other_level, no_output, the_output, nothing_laid, one_laid}
+use Rattle.listing.proofs.GateSteps.{no_output, the_output, nothing_laid, one_laid}
 use Rattle.listing.proofs.gate_lines.put_gate.Goals as goal
-
-pub returns-then-level_of-level : goal.returns-then-level_of-level
-returns-then-level_of-level c =
-    let s = c.args.survey.now in
-    let level : c.level_of.result ≡ get_or (levels s.evening.n (gates_in s.evening.taken)) c.args.variable 0 = c.level_of.ensures ∙ ap (λ l. get_or l c.args.variable 0) s.levelled in
-    nothing_laid (laid c.args.laying.now) c.args.level (gates_at s.evening.n (gates_in s.evening.taken) c.args.level c.args.variable)
-    (other_level s.evening.n c.args.level c.args.variable (gates_in s.evening.taken) (λ e. c.if-level_of-level.true (level ∙ e)))
 
 pub put_line_g-requires : goal.put_line_g-requires
 put_line_g-requires c =
@@ -28,10 +20,9 @@ returns-in-Some c =
     let s = c.args.survey.now in
     let e = s.evening in
     let there = found e.taken.sites.now c.args.variable c.gate_for.result c.in-Some.site c.gate_for.ensures c.in-Some.is in
-    let level : get_or (levels e.n (gates_in e.taken)) c.args.variable 0 ≡ c.args.level = sym (ap (λ l. get_or l c.args.variable 0) s.levelled) ∙ sym c.level_of.ensures ∙ c.if-level_of-level.false in
     c.put_line_g.ensures
     ∙ one_laid (laid c.args.laying.now) c.args.level (gates_at e.n (gates_in e.taken) c.args.level c.args.variable) (gate_of e.taken.row.now c.in-Some.site)
-    (the_output e.n c.args.level c.args.variable e.taken.row.now e.taken.sites.now c.in-Some.site e.apart there.0 there.1 level)
+    (the_output e.n c.args.level c.args.variable e.taken.row.now e.taken.sites.now c.in-Some.site e.apart there.0 there.1 c.requires)
 
 pub returns-in_default : goal.returns-in_default
 returns-in_default c =
