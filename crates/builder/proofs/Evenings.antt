@@ -17,10 +17,10 @@ use Rattle.circuits.proofs.Whole.{are_taken, gates_within}
 use Rattle.rules.specs.Patterns.{Gate}
 use Rattle.rules.specs.Taking.{allowed, taken}
 use Rattle.rules.specs.Listing.{listing}
-use Rattle.rounds.specs.Ended.{Ended}
+use Rattle.cleaning.specs.Ended.{Ended}
 use Rattle.rounds.proofs.SettleSteps.{few_variables}
-use Rattle.rounds.proofs.SubstituteSteps.{inside_entries}
-use Rattle.rounds.proofs.RoundSteps.{all_inside, ended_last}
+use Rattle.cleaning.proofs.LastEntries.{inside_entries, ended_last}
+use Rattle.rounds.proofs.RoundSteps.{all_inside}
 use Rattle.taking.specs.Settled.{IsSettled}
 use Rattle.rules.specs.Calls.{rounds_in, stands_in, gates_in, listed, bad_values}
 use Rattle.ways.proofs.Members.{get_or-mem}
