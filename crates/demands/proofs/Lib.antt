@@ -6,3 +6,4 @@ pub mod Night
 pub mod Answers
 pub mod Plans
 pub mod Texts
+pub mod WrittenBack

@@ -2,4 +2,5 @@
 // so the check of this crate is the proof of every one of them.
 #![tactic(auto)]
 
+pub mod back;
 pub mod laws;

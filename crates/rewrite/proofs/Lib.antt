@@ -1,2 +1,1 @@
--- The program has one law.
-pub mod Room
+-- The program has no laws of its own.

@@ -1,16 +1,18 @@
 -- A text that is accepted says no more entries than a table may have.
-use Rattle.std.proofs.Common.{◌≡◌, refl, sym, ap, ℕ, ◌+◌, ◌<◌, ◌≤◌, Bool, true, false, List, [], ◌∷◌, length, leb, ltb, eqb, leb-false, le-ltb, Option, Some, None, Result, Ok, Err, arith}
+use Rattle.std.proofs.Common.{◌≡◌, refl, sym, ap, ℕ, ◌+◌, ◌<◌, ◌≤◌, Bool, true, false, List, [], ◌∷◌, length, leb, ltb, eqb, leb-false, ltb-false, le-ltb, ℤ, Option, Some, None, Result, Ok, Err, arith}
 use Rattle.std.specs.Result.{result_and}
 use Rattle.tables.specs.Sizes.{most_bytes, most_entries, most_literals}
-use Rattle.tables.specs.Numbers.{Verdict, refuse}
+use Rattle.tables.specs.Numbers.{Verdict, refuse, first_refusal}
+use Rattle.tables.specs.Check.{checked}
 use Rattle.tables.specs.Literal.{var}
 use Rattle.tables.specs.declared.numbers.Refusal.{Refusal}
 use Rattle.tables.specs.declared.numbers.Refusal.TheVariants.{Unreadable, TooLarge, Undeclared, ShortBuffer}
-use Rattle.tables.proofs.Verdicts.{never, answered}
+use Rattle.tables.proofs.Verdicts.{never, answered, refuse_accepts}
 use Rattle.texts.specs.Tokens.{Token, tokens_at}
 use Rattle.texts.specs.Numbers.{number}
 use Rattle.texts.specs.Header.{header}
 use Rattle.texts.specs.Body.{judged_number, body_from, entries}
+use Rattle.texts.specs.Writing.{written, writing}
 use Rattle.texts.specs.Reading.{behind, judged, verdict, roomed, reading}
 use Rattle.texts.specs.declared.header.Header.{Header}
 use Rattle.texts.specs.declared.reading.Reading.{Reading}
@@ -84,3 +86,33 @@ reading_whole t = go (verdict t) refl
     go : (v : Result Reading Refusal) → verdict t ≡ v → roomed most_entries v ≡ v
     go (Ok r) e = rw (le-ltb most_entries r.entries (verdict_fits t r e).0) refl
     go (Err why) e = refl
+
+-- What an accepted reading or writing has room for.
+pub read_within : (text : List ℕ) (room : ℕ) (r : Reading) → reading text room ≡ Ok r → r.entries ≤ room
+unfolding reading roomed
+read_within text room r e = go (verdict text) e
+  where
+    go : (v : Result Reading Refusal) → roomed room v ≡ Ok r → r.entries ≤ room
+    go (Err why) e = never r why e
+    go (Ok s) e =
+        let (k, q) = answered (refuse (ltb room s.entries) (ShortBuffer s.entries)) s r e in
+        rw q at (ltb-false room s.entries (refuse_accepts (ltb room s.entries) (ShortBuffer s.entries) k))
+
+-- So has a writing in the buffer.
+pub written_within : (n : ℕ) (t : List ℤ) (room bytes : ℕ) → writing n t room ≡ Ok bytes → bytes ≤ room
+unfolding writing first_refusal
+written_within n t room bytes e = go (checked n t) e
+  where
+    size : ℕ
+    size = length (written n t)
+
+    go : (v : Verdict) → result_and (result_and v (result_and (refuse (ltb room size) (ShortBuffer size)) (Ok (tt {0})))) (Ok size) ≡ Ok bytes → bytes ≤ room
+    go (Err why) e = never bytes why e
+    go (Ok _) e =
+        let (k, q) = answered (result_and (refuse (ltb room size) (ShortBuffer size)) (Ok (tt {0}))) size bytes e in
+        let (h, w) = answered (refuse (ltb room size) (ShortBuffer size)) (tt {0}) (tt {0}) k in
+        rw q at (ltb-false room size (refuse_accepts (ltb room size) (ShortBuffer size) h))
+
+pub writing_is : (n : ℕ) (t : List ℤ) (room : ℕ) → checked n t ≡ Ok tt → length (written n t) ≤ room → writing n t room ≡ Ok (length (written n t))
+unfolding writing first_refusal refuse
+writing_is n t room good h = rw (good, le-ltb room (length (written n t)) h) refl

@@ -1,6 +1,6 @@
 -- The row's front is within the row, and what is written within the buffer.
 use Rattle.std.proofs.Common.{sym, ◌∙◌, arith, rules}
-use Rattle.rewrite.proofs.Room.{read_within, written_within}
+use Rattle.texts.proofs.Room.{read_within, written_within}
 use Rattle.rewrite.proofs.rewrite.Goals as goal
 
 pub split_at-requires : goal.split_at-requires
