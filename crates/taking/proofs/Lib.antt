@@ -7,3 +7,4 @@ pub mod Offers
 pub mod Walk
 pub mod Turn
 pub mod Rest
+pub mod FromRounds

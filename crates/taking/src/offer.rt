@@ -1,6 +1,7 @@
 // The gates that are being taken, and the offer of one more.
 ghost use Rattle.std.specs.Prelude.{◌≤◌, length, take};
 ghost use Rattle.std.specs.List.{All};
+ghost use Rattle.tables.specs.declared.sizes.TheConstants.{MOST_VARIABLES};
 ghost use Rattle.tables.specs.Clause.{clauses};
 ghost use Rattle.circuits.proofs.Taken;
 ghost use Rattle.gates.specs.Sites.{Within, gates_of};
@@ -12,7 +13,7 @@ use gates::outputs::is_output;
 use gates::site::Site;
 use patterns::index::Index;
 use tables::literal::var;
-use tables::sizes::MOST_VARIABLES;
+use tables::sizes::{MOST_VARIABLES, VARIABLE_NUMBERS};
 
 /// The gates taken so far from a settled table of the variables 1 to n, in an order of evaluation: the first `count` sites.
 #[derive(Drop)]
@@ -22,7 +23,7 @@ pub struct Taking<'a, 'i> {
     pub index: Index<'i>,
     pub sites: &'a mut [Site],
     pub count: usize,
-    pub ghost small: { n ≤ 1024 },
+    pub ghost small: { n ≤ MOST_VARIABLES },
     pub ghost room: { n ≤ length sites.now },
     pub ghost few: { count ≤ n },
     pub ghost settled: { ∥ IsSettled n (clauses index.row.now) ∥₁ },
@@ -43,7 +44,7 @@ impl<'a, 'i> Taking<'a, 'i> {
 
     /// No gate yet: the sites are room for as many as there are variables.
     pub fn start(n: usize, index: Index<'i>, sites: &'a mut [Site]) -> Taking<'a, 'i>
-        requires small { n ≤ 1024 }
+        requires small { n ≤ MOST_VARIABLES }
         requires room { n ≤ length sites.old }
         requires settled { IsSettled n (clauses index.row.now) }
         ensures n { result.n ≡ n }
@@ -88,7 +89,7 @@ impl<'a, 'i> Taking<'a, 'i> {
         requires valid { ∥ Valid self.old.n (table self.old) (gate_of (row self.old) site) ∥₁ }
         ensures { Offered self.old self.new result (gate_of (row self.old) site ∷ []) }
     {
-        let mut marks = [0; MOST_VARIABLES + 1];
+        let mut marks = [0; VARIABLE_NUMBERS];
         let (marks, _) = marks.split_at_mut(self.n + 1);
         if !self.is_allowed(site, marks) {
             return false;

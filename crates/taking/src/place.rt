@@ -9,9 +9,10 @@ ghost use Rattle.taking.specs.Placing.{in_part, placed};
 use gates::site::Site;
 use rules::marks::is_marked;
 use tables::literal::var;
+use tables::sizes::MOST_VARIABLES;
 
 /// As many gates as there are variables at most: no two have one output.
-pub const MOST_GATES: usize = 1_024;
+pub const MOST_GATES: usize = MOST_VARIABLES;
 
 /// Whether the gate's output is marked, where those that depend are asked for; of the others whether it is not.
 fn is_of(site: Site, dependent: bool, marks: &[u8]) -> bool
@@ -61,7 +62,7 @@ fn write_placed(taken: &[Site], site: Site, marks: &[u8], row: &mut [Site])
 
 /// Puts a gate in its place among the first `count` of the row, by the marks of what depends on its output.
 pub fn place(sites: &mut [Site], count: usize, site: Site, marks: &[u8])
-    requires few { count ≤ 1024 }
+    requires few { count ≤ MOST_GATES }
     requires room { count < length sites.old }
     ensures parts { take (count + 1) sites.new ≡ placed marks.now (take count sites.old) site }
     ensures order { (row : List ℤ) (n : ℕ) → marks.now ≡ dependents n (gates_of row (take count sites.old)) (var site.output)

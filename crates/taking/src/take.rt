@@ -13,7 +13,7 @@ use gates::site::Site;
 use gates::taken::Taken;
 use patterns::index::{Index, KEYS};
 use tables::rows::clauses_of;
-use tables::sizes::MOST_ENTRIES;
+use tables::sizes::{MOST_ENTRIES, MOST_VARIABLES};
 
 impl Taking<'_, '_> {
     /// Goes through the clauses of the settled table.
@@ -34,8 +34,8 @@ impl Taking<'_, '_> {
 
 /// Takes the gates of a settled table, in an order of evaluation; the sites are room for them.
 pub fn take_gates<'a>(n: usize, row: &'a [i32], sites: &'a mut [Site]) -> Taken<'a>
-    requires few { n ≤ 1024 }
-    requires short { length row.now ≤ 16384 }
+    requires few { n ≤ MOST_VARIABLES }
+    requires short { length row.now ≤ MOST_ENTRIES }
     requires room { n ≤ length sites.old }
     requires settled { IsSettled n (clauses row.now) }
     ensures row { result.row.now ≡ row.now }
