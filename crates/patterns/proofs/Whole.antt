@@ -7,7 +7,7 @@ use Rattle.std.proofs.lemmas.Bool.{cases_Bool}
 use Rattle.std.proofs.lemmas.List.{length-map}
 use Rattle.std.proofs.lemmas.List.Sums.{sum_by-cons, count_by-le-length}
 use Rattle.std.proofs.lemmas.Nat.{one_shl}
-use Rattle.std.proofs.Math.Bool.{beq, xor, and-false, or-false, or_assoc}
+use Rattle.std.proofs.Math.Bool.{xor, and-false, or-false, or_assoc}
 use Rattle.ways.specs.Ways.{same, among}
 use Rattle.tables.specs.Literal.{literal, var}
 use Rattle.tables.specs.Clause.{clauses}

@@ -1,6 +1,6 @@
 // An index of a row's clauses by a key of their variables: chains through the row, from each key's first clause on.
 ghost use Rattle.std.specs.Prelude.{◌≡◌, ◌+◌, ◌*◌, ◌%◌, ◌<◌, ◌≤◌, [], ◌∷◌, map, length};
-ghost use Rattle.tables.specs.Literal.{literal, var};
+ghost use Rattle.tables.specs.Literal.{literal};
 ghost use Rattle.patterns.specs.Index.{Heads, Indexed, key};
 
 use tables::literal::{literal, var};

@@ -1,9 +1,9 @@
 // Parity groups: whether a clause is its group's first in the row, and whether the row has all of the group.
-ghost use Rattle.std.specs.Prelude.{◌≡◌, ◌&&◌, ◌<◌, ◌≤◌, ℕ, true, map, length};
+ghost use Rattle.std.specs.Prelude.{◌≡◌, ◌&&◌, ◌<◌, ◌≤◌, ℕ, map, length};
 ghost use Rattle.std.specs.Bool.{OnTrue};
-ghost use Rattle.std.specs.List.{fold, list_all, list_any};
+ghost use Rattle.std.specs.List.{list_all};
 ghost use Rattle.ways.specs.Ways.{among, same};
-ghost use Rattle.tables.specs.Literal.{literal, var};
+ghost use Rattle.tables.specs.Literal.{literal};
 ghost use Rattle.tables.specs.Clause.{clauses};
 ghost use Rattle.rules.specs.Patterns.{anchors, first_of, found, group, parity};
 ghost use Rattle.patterns.specs.Seen.{see, seen};

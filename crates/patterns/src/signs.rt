@@ -1,5 +1,5 @@
 // The signs of a short clause as a number: a bit for each literal, set where it is negative.
-ghost use Rattle.std.specs.Prelude.{◌≡◌, ◌<◌, ◌≤◌, ◌^◌, map, length};
+ghost use Rattle.std.specs.Prelude.{◌≡◌, ◌<◌, ◌≤◌, map, length};
 ghost use Rattle.tables.specs.Literal.{literal};
 ghost use Rattle.rules.specs.Patterns.{odd};
 ghost use Rattle.patterns.specs.Seen.{signs};
