@@ -25,6 +25,7 @@ const ROOM: usize = MOST_VARIABLES + 1;
 #[derive(Clone, Copy)]
 pub struct Circuit<'a> {
     pub taken: Taken<'a>,
+    /// A byte for each variable, 1 for true.
     pub given: &'a [u8],
 }
 

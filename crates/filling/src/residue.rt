@@ -66,14 +66,11 @@ fn is_in(row: &[i32], site: Site, clause: &[i32]) -> bool
 }
 
 /// Whether the clause is in the pattern of one of the gates.
-#[tactic(auto, unfolding(rules::specs::Circuit::in_pattern))]
 pub fn in_pattern(taken: &Taken, clause: &[i32]) -> bool
     ensures { result ≡ in_pattern (gates_in taken.now) (map literal clause.now) }
 {
-    for &site in taken.sites {
-        if is_in(taken.row, site, clause) {
-            return true;
-        }
-    }
-    false
+    taken
+        .sites
+        .iter()
+        .any(|&site| is_in(taken.row, site, clause))
 }
