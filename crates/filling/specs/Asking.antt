@@ -1,5 +1,5 @@
 -- Asking for one variable: the circuit that is asked, the answers, and what is remembered of them.
-use Rattle.std.specs.Prelude.{◌≡◌, ℕ, ◌≤◌, Bool, cond, List, length, get_or, eqb, Option, None, Some}
+use Rattle.std.specs.Prelude.{◌≡◌, ℕ, ◌≤◌, Bool, List, length, get_or, Option, None, Some}
 use mathlib.Core.List.{Memᴰ}
 use Rattle.tables.specs.Literal.{valued}
 use Rattle.rules.specs.Patterns.{Gate}
@@ -25,13 +25,6 @@ ended c v = valued (fill_gates (gates_in c.taken) c.given.now) v
 unfoldable pub level : Circuit → ℕ → ℕ
 level c v = get_or (levels (length c.given.now) (gates_in c.taken)) v 0
 
--- What a place of the memory says: 0 that the answer is not known, 1 that it is no, 2 that it is yes.
-abbrev pub known : Bool → ℕ
-known b = cond b 2 1
-
-abbrev pub recalled : List ℕ → ℕ → Option Bool
-recalled memo v = cond (eqb (get_or memo v 0) 0) None (Some (eqb (get_or memo v 0) 2))
-
 -- Every remembered answer is right.
-pub record Remembers (c : Circuit) (memo : List ℕ) : Type 0 where
-  pub right : (v : ℕ) → (get_or memo v 0 ≡ 0 → ⊥) → get_or memo v 0 ≡ known (ended c v)
+pub record Remembers (c : Circuit) (memo : List (Option Bool)) : Type 0 where
+  pub right : (v : ℕ) (b : Bool) → get_or memo v None ≡ Some b → b ≡ ended c v

@@ -17,7 +17,7 @@ use tables::sizes::MOST_VARIABLES;
 use tables::values::is_true;
 
 /// Gives a gate's output its value.
-#[tactic(auto, using(crate::proofs::FillSteps::output_is, crate::proofs::FillSteps::step_past), unfolding(rules::specs::Fill::fill_step, rules::specs::Fill::bit))]
+#[tactic(auto, using(gates::proofs::SiteLaws::output_at, crate::proofs::FillSteps::step_past), unfolding(rules::specs::Fill::fill_step, rules::specs::Fill::bit))]
 fn evaluate_one(row: &[i32], site: Site, values: &mut [u8])
     requires { Within row.now site }
     ensures { values.new ≡ fill_step values.old (gate_of row.now site) }
@@ -51,7 +51,7 @@ fn shown(stands: &[u16], ended: &[u8], variable: usize) -> u8
 /// Writes each variable's value.
 #[tactic(auto, using(crate::proofs::FillSteps::show_turns, crate::proofs::FillSteps::show_ends))]
 fn show_each(stands: &[u16], ended: &[u8], values: &mut [u8])
-    requires { length values.old ≤ 1024 }
+    requires { length values.old ≤ MOST_VARIABLES }
     ensures { values.new ≡ map (shown stands.now ended.now) (range_with_len 1 (length values.old)) }
 {
     for (place, value) in values.iter_mut().enumerate() {
@@ -62,7 +62,7 @@ fn show_each(stands: &[u16], ended: &[u8], values: &mut [u8])
 /// Fills in all variables, of which the free ones have the values given.
 #[tactic(auto, using(crate::proofs::Filled::filled_front))]
 pub fn fill(taken: &Taken, stands: &[u16], given: &[u8], values: &mut [u8])
-    requires few { length values.old ≤ 1024 }
+    requires few { length values.old ≤ MOST_VARIABLES }
     requires given { length values.old ≤ length given.now }
     requires inside { All (λ e. var (literal e) ≤ length values.old) taken.now.row.now }
     requires standing { All (λ l. var l ≤ length values.old) stands.now }

@@ -301,13 +301,16 @@ number_low (ShortBuffer room) = omega arith
 number_low ShortWork = omega arith
 number_low (BadValue variable) = omega arith
 
-pub x_short : (why : Refusal) → place_of why < 2 ^ 64 → length (line_x why) < 2 ^ 64
+pub x_few : (why : Refusal) → place_of why < 2 ^ 64 → length (line_x why) ≤ 64
 unfolding line_x
-x_short why h =
+x_few why h =
     let n = number_of why in
     let p = place_of why in
     let low = number_low why in
     omega (arith, line_long "X" (decimal n ∷ decimal p ∷ []), field_long (decimal n) (decimal p ∷ []), field_long (decimal p) [], decimal_short n, decimal_few 19 p (omega arith))
+
+pub x_short : (why : Refusal) → place_of why < 2 ^ 64 → length (line_x why) < 2 ^ 64
+x_short why h = let few = x_few why h in omega arith
 
 pub x_said : (s t : Laid) (why : Refusal) (n p : ℕ) → n ≡ number_of why → p ≡ place_of why → t ≡ lay s (line "X" (decimal n ∷ decimal p ∷ [])) → t ≡ lay s (line_x why)
 unfolding line_x

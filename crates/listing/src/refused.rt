@@ -1,5 +1,5 @@
 // The line that stands in the place of a listing, where there is none.
-ghost use Rattle.std.specs.Prelude.{◌≡◌, length};
+ghost use Rattle.std.specs.Prelude.{◌≡◌, ◌≤◌, length};
 ghost use Rattle.rules.specs.Listing.{line_x};
 ghost use Rattle.texts.specs.Buffer.{overlay};
 
@@ -10,6 +10,7 @@ use texts::pieces::Laying;
 /// Lays the line of a refusal over the front of a buffer: how many bytes it has.
 pub fn put_x(out: &mut [u8], why: Refusal) -> usize
     ensures is { result ≡ length (line_x why) }
+    ensures short { result ≤ 64 }
     ensures laid { out.new ≡ overlay out.old 0 (line_x why) }
 {
     let number = why.number() as usize;
