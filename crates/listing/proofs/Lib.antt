@@ -4,4 +4,3 @@ pub mod ChainSteps
 pub mod GateSteps
 pub mod Sizes
 pub mod Outputs
-pub mod Distinct

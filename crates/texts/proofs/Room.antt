@@ -1,16 +1,16 @@
 -- A text that is accepted says no more entries than a table may have.
-use Rattle.std.proofs.Common.{◌≡◌, refl, sym, ap, ℕ, ◌+◌, ◌<◌, ◌≤◌, Bool, true, false, List, [], ◌∷◌, length, leb, ltb, eqb, leb-false, le-ltb, Option, Some, None, Result, Ok, Err, arith}
+use Rattle.std.proofs.Common.{◌≡◌, refl, ap, ℕ, ◌+◌, ◌<◌, ◌≤◌, Bool, true, false, List, [], ◌∷◌, length, leb, ltb, eqb, leb-false, le-ltb, Option, Some, None, Result, Ok, Err, arith}
 use Rattle.std.specs.Result.{result_and}
 use Rattle.tables.specs.Sizes.{most_bytes, most_entries, most_literals}
 use Rattle.tables.specs.Numbers.{Verdict, refuse}
 use Rattle.tables.specs.Literal.{var}
 use Rattle.tables.specs.declared.numbers.Refusal.{Refusal}
-use Rattle.tables.specs.declared.numbers.Refusal.TheVariants.{Unreadable, TooLarge, Undeclared, ShortBuffer}
+use Rattle.tables.specs.declared.numbers.Refusal.TheVariants.{Unreadable, TooLarge, Undeclared}
 use Rattle.tables.proofs.Verdicts.{never, answered}
 use Rattle.texts.specs.Tokens.{Token, tokens_at}
 use Rattle.texts.specs.Numbers.{number}
 use Rattle.texts.specs.Header.{header}
-use Rattle.texts.specs.Body.{judged_number, body_from, entries}
+use Rattle.texts.specs.Body.{judged_number, body_from}
 use Rattle.texts.specs.Reading.{behind, judged, verdict, roomed, reading}
 use Rattle.texts.specs.declared.header.Header.{Header}
 use Rattle.texts.specs.declared.reading.Reading.{Reading}
