@@ -17,7 +17,7 @@ use Rattle.circuits.proofs.Whole.{are_taken, gates_within}
 use Rattle.rules.specs.Patterns.{Gate}
 use Rattle.rules.specs.Taking.{allowed, taken}
 use Rattle.rules.specs.Listing.{listing}
-use Rattle.cleaning.specs.Ended.{Ended}
+use Rattle.chains.specs.Ended.{Ended}
 use Rattle.rounds.proofs.SettleSteps.{few_variables}
 use Rattle.cleaning.proofs.LastEntries.{inside_entries, ended_last}
 use Rattle.rounds.proofs.RoundSteps.{all_inside}

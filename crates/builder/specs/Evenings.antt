@@ -11,7 +11,7 @@ use Rattle.circuits.proofs.Order.{Ordered}
 use Rattle.rules.specs.Pins.{book_long}
 use Rattle.rules.specs.Calls.{work_short, held_bad, contradiction, outcome_of}
 use Rattle.rules.specs.declared.book.Book.{Book}
-use Rattle.cleaning.specs.Ended.{Ended}
+use Rattle.chains.specs.Ended.{Ended}
 use Rattle.gates.specs.TakenGates.{gates_in}
 use Rattle.listing.specs.declared.evening.Evening.{Evening}
 

@@ -9,7 +9,7 @@ use Rattle.tables.specs.Literal.{literal, var}
 use Rattle.tables.specs.Clause.{clauses_from, clauses}
 use Rattle.tables.proofs.Literals.{literal_zero}
 use Rattle.tables.proofs.Clauses.{clause_ends, clause_grows, All as EachLiteral}
-use Rattle.cleaning.specs.Ended.{left_open, Ended}
+use Rattle.chains.specs.Ended.{left_open, Ended}
 
 -- Where the last entry is a zero, what holds of the literals of the clauses holds of every entry but the zeros.
 abbrev pub LastEnds : List ℤ → Type 0

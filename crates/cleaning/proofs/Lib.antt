@@ -3,7 +3,6 @@ pub mod Insert
 pub mod Parts
 pub mod Tidying
 pub mod Open
-pub mod Endings
 pub mod LastEntries
 pub mod Voids
 pub mod CleanSteps

@@ -8,7 +8,7 @@ use Rattle.tables.specs.declared.numbers.Refusal.TheVariants.{Contradiction}
 use Rattle.tables.proofs.Verdicts.{never}
 use Rattle.rules.specs.Rounds.{Outcome, impossible, settled}
 use Rattle.rules.specs.Calls.{contradiction}
-use Rattle.cleaning.specs.Ended.{Ended}
+use Rattle.chains.specs.Ended.{Ended}
 use Rattle.rounds.specs.Rounds.{Settles}
 use Rattle.rounds.specs.declared.settle.Settled.{Settled}
 

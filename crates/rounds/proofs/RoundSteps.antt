@@ -11,7 +11,7 @@ use Rattle.rules.specs.Clean.{clean}
 use Rattle.rules.specs.Pairs.{pairs, stands, replace, starting, leaders, torn, join}
 use Rattle.rules.specs.Rounds.{Round, stuck, ended, goes_on, paired, cleaned, round, pinned}
 use Rattle.settling.proofs.Round.{Good, ds, s, st', ds_live, next_good}
-use Rattle.cleaning.specs.Ended.{Ended}
+use Rattle.chains.specs.Ended.{Ended}
 use Rattle.pairing.specs.Substitute.{Live}
 use Rattle.pairing.specs.Pairs.{found}
 use Rattle.pairing.specs.declared.pairs.Pairs.{Pairs}

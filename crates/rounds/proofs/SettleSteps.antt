@@ -14,7 +14,7 @@ use Rattle.settling.proofs.Inside.{pinned_inside}
 use Rattle.settling.proofs.Round.{Good}
 use Rattle.settling.proofs.Models.{first_good}
 use Rattle.settling.proofs.Bound.{Leaves, round_leaves}
-use Rattle.cleaning.specs.Ended.{left_open, Ended}
+use Rattle.chains.specs.Ended.{left_open, Ended}
 use Rattle.rounds.specs.Rounds.{Holds, Turns, kept_of, Settles}
 use Rattle.rounds.specs.declared.settle.Settled.{Settled}
 use Rattle.rounds.specs.declared.round.Turn.{Turn}

@@ -3,7 +3,7 @@ ghost use Rattle.std.specs.Prelude.{◌≡◌, ◌+◌, ◌*◌, ◌≤◌, leng
 ghost use Rattle.tables.specs.Sizes.{most_variables, most_entries};
 ghost use Rattle.rules.specs.Rounds.{round, pinned};
 ghost use Rattle.settling.proofs.Round.{Good};
-ghost use Rattle.cleaning.specs.Ended.{Ended};
+ghost use Rattle.chains.specs.Ended.{Ended};
 ghost use Rattle.rounds.specs.Rounds.{Turns, kept_of};
 
 use cleaning::clean::clean;

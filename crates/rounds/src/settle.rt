@@ -7,7 +7,7 @@ ghost use Rattle.rules.specs.Pairs.{starting};
 ghost use Rattle.rules.specs.Rounds.{rounds, outcome, pinned};
 ghost use Rattle.rules.specs.Pins.{out_of_range};
 ghost use Rattle.settling.proofs.Round.{Good};
-ghost use Rattle.cleaning.specs.Ended.{Ended};
+ghost use Rattle.chains.specs.Ended.{Ended};
 ghost use Rattle.rounds.specs.Rounds.{Settles};
 
 use crate::round::{Turn, round};

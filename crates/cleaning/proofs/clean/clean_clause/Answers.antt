@@ -1,5 +1,5 @@
 -- The clause goes or is closed behind the kept ones.
-use Rattle.std.proofs.Common.{◌≡◌, ◌∙◌, ℕ, sym, ap, ◌+◌, ◌-◌, ◌≤◌, true, false, ◌||◌, List, map, length, set, take, drop, slice_range, ℤ, pos, arith}
+use Rattle.std.proofs.Common.{◌≡◌, ◌∙◌, ℕ, sym, ap, ◌+◌, ◌-◌, ◌≤◌, true, false, ◌||◌, List, [], ◌∷◌, ◌++◌, subst, map, length, set, take, drop, slice_range, ℤ, pos, arith}
 use Rattle.std.specs.List.{list_any}
 use Rattle.std.proofs.lemmas.List.{take_at, drop-drop, drop-set-lt}
 use Rattle.ways.specs.Ways.{has, among}
@@ -8,9 +8,10 @@ use Rattle.tables.specs.Clause.{clauses}
 use Rattle.rules.specs.Forced.{marked}
 use Rattle.rules.specs.Clean.{tidy}
 use Rattle.cleaning.specs.Neighbours.{opposed_from}
-use Rattle.cleaning.specs.Ended.{Ended}
+use Rattle.chains.specs.Ended.{Ended}
+use Rattle.chains.specs.Follow.{Follows}
 use Rattle.cleaning.proofs.Parts.{same_further}
-use Rattle.cleaning.proofs.CleanSteps.{step_forced, step_needless, step_adds, tidy_whole, closed_clauses, closed_ended, drop_past}
+use Rattle.cleaning.proofs.CleanSteps.{step_forced, step_needless, step_adds, tidied_whole, closed, closed_clauses, closed_ended, drop_past}
 use Rattle.cleaning.proofs.clean.clean_clause.Goals as goal
 
 pub returns-then-has_forced-clause-cleaned : goal.returns-then-has_forced-clause-cleaned
@@ -45,6 +46,21 @@ returns-then-is_needless-clause-behind c =
     ∙ same_further c.tidy-len.new.row rest _ c.tidy-len.ensures.behind (n - length front) (omega arith)
     ∙ sym (drop_past front rest n l) ∙ ap (drop n) (sym c.split_at_mut-front.ensures.value)
 
+pub add-requires-clause-whole : goal.add-requires-clause-whole
+add-requires-clause-whole c =
+    let xs = slice_range c.args.row.now c.args.start c.args.end in
+    let m = c.args.marks.now in
+    let p = part_is c.args.row.now c.args.kept c.args.start c.args.end c.requires.behind in
+    let t : map literal c.split_at.result.0.now ≡ tidy m (map literal xs) = cc in
+    tidied_whole m (map literal xs) _ t c.requires.one
+
+pub returns-clause-chained : goal.returns-clause-chained
+returns-clause-chained c =
+    let front = c.split_at_mut-front.result.0.now in
+    let f : c.split_at.result.0.now ≡ take c.tidy-len.result c.tidy-len.new.row = c.split_at.ensures.front in
+    subst (λ zs. Follows zs c.add.new.self) (ap (λ ys. front ++ (ys ++ (pos 0 ∷ []))) f ∙ sym (closed front c.tidy-len.new.row c.tidy-len.result _ (omega arith) (omega arith)))
+    c.add.ensures
+
 pub returns-clause-cleaned : goal.returns-clause-cleaned
 returns-clause-cleaned c =
     let xs = slice_range c.args.row.now c.args.start c.args.end in
@@ -55,7 +71,7 @@ returns-clause-cleaned c =
     let p = part_is c.args.row.now c.args.kept c.args.start c.args.end c.requires.behind in
     let t : map literal (take c.tidy-len.result c.tidy-len.new.row) ≡ tidy m (map literal xs) = cc in
     let b : (opposed_from 0 (tidy m (map literal xs)) || among (tidy m (map literal xs)) done) ≡ false = cc in
-    let w : has 0 (map literal (take c.tidy-len.result c.tidy-len.new.row)) ≡ false = rw (t) (tidy_whole m (map literal xs) c.requires.one) in
+    let w : has 0 (map literal (take c.tidy-len.result c.tidy-len.new.row)) ≡ false = tidied_whole m (map literal xs) _ t c.requires.one in
     let f : Ended front = rw (c.split_at_mut-front.ensures.front) c.requires.ended in
     let d : clauses front ≡ done = cc in
     closed_clauses front c.tidy-len.new.row c.tidy-len.result _ (omega arith) (omega arith) w f
@@ -68,7 +84,7 @@ returns-clause-ended c =
     let front = c.split_at_mut-front.result.0.now in
     let p = part_is c.args.row.now c.args.kept c.args.start c.args.end c.requires.behind in
     let t : map literal (take c.tidy-len.result c.tidy-len.new.row) ≡ tidy m (map literal xs) = cc in
-    let w : has 0 (map literal (take c.tidy-len.result c.tidy-len.new.row)) ≡ false = rw (t) (tidy_whole m (map literal xs) c.requires.one) in
+    let w : has 0 (map literal (take c.tidy-len.result c.tidy-len.new.row)) ≡ false = tidied_whole m (map literal xs) _ t c.requires.one in
     let f : Ended front = rw (c.split_at_mut-front.ensures.front) c.requires.ended in
     closed_ended front c.tidy-len.new.row c.tidy-len.result _ (omega arith) (omega arith) w f
 

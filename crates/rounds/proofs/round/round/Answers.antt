@@ -2,7 +2,7 @@
 use Rattle.std.proofs.Common.{◌≡◌, ◌∙◌, refl, sym, ap, subst, map, length, take, drop, arith}
 use Rattle.std.specs.List.{All}
 use Rattle.std.proofs.lemmas.List.{take_at, length-take-le}
-use Rattle.cleaning.specs.Ended.{Ended}
+use Rattle.chains.specs.Ended.{Ended}
 use Rattle.tables.specs.Clause.{clauses}
 use Rattle.rules.specs.Pairs.{pairs, replace}
 use Rattle.rules.specs.Rounds.{pinned}

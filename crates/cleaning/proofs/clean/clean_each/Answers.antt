@@ -5,17 +5,17 @@ use Rattle.std.proofs.lemmas.List.{drop_all}
 use Rattle.ways.specs.Ways.{has}
 use Rattle.tables.specs.Clause.{clauses_from, clauses}
 use Rattle.rules.specs.Clean.{clean_step, clean}
-use Rattle.cleaning.specs.Ended.{left_open}
+use Rattle.chains.specs.Ended.{left_open}
 use Rattle.cleaning.proofs.Parts.{same_further}
 use Rattle.tables.proofs.Entries.{is_end, no_end}
 use Rattle.cleaning.proofs.Open.{open_part}
 use Rattle.cleaning.proofs.Cleaned.{same_part, same_entry, clean_ends, clean_grows, whole_grows, none_open}
-use Rattle.cleaning.proofs.clean.clean.Goals as goal
-use Rattle.cleaning.proofs.clean.clean.Goals.{then-row-end-eq0, else-row-end-eq0}
+use Rattle.cleaning.proofs.clean.clean_each.Goals as goal
+use Rattle.cleaning.proofs.clean.clean_each.Goals.{then-row-end-eq0, else-row-end-eq0}
 
 pub loop-end-init : goal.loop-end-init
 unfolding clean clauses clauses_from left_open
-loop-end-init c = record { so_far = refl; ended = refl; whole = refl; behind = omega arith; before = omega arith; rest = refl }
+loop-end-init c = record { so_far = refl; ended = refl; chained = c.requires; whole = refl; behind = omega arith; before = omega arith; rest = refl }
 
 pub clean_clause-kept-requires-clause-one : goal.clean_clause-kept-requires-clause-one
 clean_clause-kept-requires-clause-one c =
@@ -38,9 +38,10 @@ loop-end-preserved c =
       | then-row-end-eq0 w ↦
           let e : get_or was at (pos 0) ≡ pos 0 = z ∙ is_end _ (search rules) w.if-row-end-eq0.true in
           let q = w.clean_clause-kept.ensures.cleaned ∙ ap (clean_step m (clauses (take c.loop-end.kept now))) p in
-          rw (w.row-is, w.kept-is, w.start-is) (record {
+          rw (w.row-is, w.kept-is, w.start-is, w.chains-is) (record {
             so_far = clean_ends m _ (clauses (take c.loop-end.kept now)) was start at k i.so_far (clauses (take w.clean_clause-kept.result w.clean_clause-kept.new.row)) e q;
             ended = w.clean_clause-kept.ensures.ended;
+            chained = w.clean_clause-kept.ensures.chained;
             whole = ap (has 0) (none_open was (at + 1));
             behind = w.clean_clause-kept.ensures.within;
             before = omega arith;
@@ -48,9 +49,10 @@ loop-end-preserved c =
           })
       | else-row-end-eq0 w ↦
           let e = λ (q : get_or was at (pos 0) ≡ pos 0). no_end _ w.if-row-end-eq0.false (sym z ∙ q) in
-          rw (w.row-is, w.kept-is, w.start-is) (record {
+          rw (w.row-is, w.kept-is, w.start-is, w.chains-is) (record {
             so_far = clean_grows m _ (clauses (take c.loop-end.kept now)) was start at k i.so_far i.before e;
             ended = i.ended;
+            chained = i.chained;
             whole = whole_grows was start at i.before k e i.whole;
             behind = i.behind;
             before = omega arith;

@@ -1,9 +1,10 @@
+-- The row is gone through clause by clause.
 use Rattle.std.proofs.Common.{map, tests, rules}
 use Rattle.std.proofs.lemmas.Iterator.Search.{any_from_yields_List}
 use Rattle.ways.specs.Ways.{same}
 use Rattle.tables.specs.Literal.{literal}
 use Rattle.tables.proofs.EndedClauses.{clauses_given}
-use Rattle.cleaning.proofs.earlier.is_among.Goals as goal
+use Rattle.chains.proofs.chain.is_one_of.Goals as goal
 
 pub returns : goal.returns
 returns c =

@@ -7,7 +7,7 @@ use Rattle.ways.specs.Ways.{has}
 use Rattle.std.proofs.lemmas.Bool.{both_ways}
 use Rattle.tables.specs.Literal.{literal}
 use Rattle.tables.specs.Clause.{clauses_from, clauses}
-use Rattle.cleaning.specs.Ended.{left_open, Ended}
+use Rattle.chains.specs.Ended.{left_open, Ended}
 
 pub clauses-append : (b : List ℕ) (xs ys : List ℤ) → clauses_from b (xs ++ ys) ≡ clauses_from b xs ++ clauses_from (left_open b xs) ys
 unfolding clauses_from left_open
