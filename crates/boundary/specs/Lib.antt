@@ -1,0 +1,2 @@
+-- What the boundary says of its own.
+pub mod Answers
