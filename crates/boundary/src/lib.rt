@@ -5,4 +5,5 @@
 pub mod answer;
 pub mod desk;
 pub mod paper;
+pub mod settled;
 pub mod yard;
