@@ -67,8 +67,8 @@ pub extern "C" fn choptimber_take_back(book: &mut LentBook) -> Answer
     ensures is { result ≡ told (booked_numbers (take_back (held_as book.old))) }
     ensures book { book.new ≡ lent_as (book_after (held_as book.old) (take_back (held_as book.old))) }
 {
-    let mut held = held_as(book);
-    let answer = take_back(&mut held);
-    *book = lent_as(held);
+    let mut left = held_as(book);
+    let answer = take_back(&mut left);
+    *book = lent_as(left);
     nothing_else(answer)
 }

@@ -55,6 +55,8 @@ pub fn of_seed(seed: u64) -> Vec<Case> {
     }
     if seed.is_multiple_of(64) {
         cases.extend(yards::yards(24 + (seed / 64 % 16) as usize * 2).into_iter().map(|yard| yard.case));
+    }
+    if seed.is_multiple_of(256) {
         let full = yards::planted(seed, 1_024, 4_096, 16_384).case;
         if let Start::Table { n, table } = &full.start {
             cases.push(texts::damaged_text(seed, text_of(*n, table).into_bytes()));

@@ -15,6 +15,7 @@ use crate::yards;
 use std::cell::RefCell;
 use std::collections::BTreeMap;
 use std::panic::{catch_unwind, AssertUnwindSafe};
+use std::time::{Duration, Instant};
 
 /// How many passed and failed.
 #[derive(Default)]
@@ -199,8 +200,10 @@ pub fn coverage(builder: &dyn Builder, first: u64, count: u64) -> String {
 /// Compares two builders on some cases. What was compared is counted by call.
 pub fn against(a: &dyn Builder, b: &dyn Builder, cases: impl Iterator<Item = Case>) -> Tally {
     let mut tally = Tally::default();
+    let mut slowest = (Duration::ZERO, String::new());
     for case in cases {
         let failed = tally.failed;
+        let began = Instant::now();
         let found = RefCell::new(Counts::new());
         tally.case(&case, |case| {
             let counts = compare(a, b, case).map_err(|difference| difference.to_string())?;
@@ -212,7 +215,11 @@ pub fn against(a: &dyn Builder, b: &dyn Builder, cases: impl Iterator<Item = Cas
                 *tally.calls.entry(call).or_default() += count;
             }
         }
+        if began.elapsed() > slowest.0 {
+            slowest = (began.elapsed(), format!("{} seed {}", case.family, case.seed));
+        }
     }
+    println!("the slowest case: {}, {:.1} s", slowest.1, slowest.0.as_secs_f64());
     tally
 }
 
