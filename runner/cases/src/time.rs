@@ -1,7 +1,7 @@
 //! How long each call takes, in nanoseconds: the proved calls beside the second program.
 //!
 //! A call is made again and again for a twentieth of a second, and the least time is shown: what else the machine does only
-//! adds to it. Calls that a builder has not are shown by a dash, and so are those that a refusal stops early.
+//! adds to it. A call that only one of the two has is left out.
 
 use crate::builder::{Book, Builder, Call, Numbers, Proved, Second};
 use crate::case::{text_of, Start};
@@ -103,9 +103,9 @@ fn least<T>(mut call: impl FnMut() -> T) -> u128 {
     least.as_nanos()
 }
 
-fn time(builder: &dyn Builder, call: Call, input: &Input) -> Option<u128> {
+fn time(builder: &dyn Builder, call: Call, input: &Input) -> u128 {
     let memory = &mut Memory::new();
-    builder.has(call).then(|| least(|| measured(builder, call, input, memory)))
+    least(|| measured(builder, call, input, memory))
 }
 
 /// The table check once more, as a loop with nothing around it.
@@ -177,6 +177,11 @@ fn row(input: &Input, rounds: &str, cells: &[String]) {
     println!("| {} | {} | {} | {rounds} | {} |", input.name, input.n, input.table.len(), cells.join(" | "));
 }
 
+/// The calls that both have.
+fn steps() -> impl Iterator<Item = Call> {
+    STEPS.into_iter().filter(|call| Proved.has(*call) && Second.has(*call))
+}
+
 fn heading(call: Call, unit: &str, more: &str) {
     println!("\n### {}, {unit} a call\n", call.name());
     println!("| input | n | entries | rounds | proved | second | ratio |{more}");
@@ -187,10 +192,10 @@ fn heading(call: Call, unit: &str, more: &str) {
 pub fn tables(texts: Vec<(String, Vec<u8>)>) {
     let inputs = inputs(texts);
     let counts: Vec<String> = inputs.iter().map(rounds).collect();
-    for call in STEPS {
+    for call in steps() {
         heading(call, "nanoseconds", if call == Call::Check { " plain loop | proved to plain |" } else { "" });
         for (input, rounds) in inputs.iter().zip(&counts) {
-            let (ours, theirs) = (time(&Proved, call, input), time(&Second, call, input));
+            let (ours, theirs) = (Some(time(&Proved, call, input)), Some(time(&Second, call, input)));
             let mut cells = vec![cell(ours), cell(theirs), ratio(ours, theirs)];
             if call == Call::Check {
                 let plain = Some(least(|| plain_loop(black_box(input.n), black_box(&input.table))));
@@ -201,18 +206,15 @@ pub fn tables(texts: Vec<(String, Vec<u8>)>) {
     }
 }
 
-/// The instructions of both, counted by valgrind, a table for each call; what takes longer than a second is left out.
+/// The instructions of both, counted by valgrind, a table for each call; a call that takes longer than a second has a dash.
 pub fn instructions(texts: Vec<(String, Vec<u8>)>) {
     let inputs = inputs(texts);
-    for call in STEPS {
+    for call in steps() {
         heading(call, "instructions", "");
         for input in &inputs {
             let count = |builder: &dyn Builder, by: &str| {
-                let time = time(builder, call, input)?;
-                if time > LONG.as_nanos() / 10 {
-                    return None;
-                }
-                counted(by, call, input)
+                let short = time(builder, call, input) < LONG.as_nanos();
+                short.then(|| counted(by, call, input)).flatten()
             };
             let (ours, theirs) = (count(&Proved, "proved"), count(&Second, "second"));
             row(input, &rounds(input), &[cell(ours), cell(theirs), ratio(ours, theirs)]);
