@@ -65,6 +65,7 @@ pub extern "C" fn choptimber_settle(
 ) -> Answer
     ensures number { result.number ≡ answer_number (settle_verdict n table.now (held_as book.now) (length row.old) (length stands.old)) }
     ensures place { result.place ≡ answer_place (settle_verdict n table.now (held_as book.now) (length row.old) (length stands.old)) }
+    ensures refused { 0 < result.number → (result.first ≡ 0) × (result.second ≡ 0) }
     ensures settled { result.number ≡ 0 → Leaves n table.now (held_as book.now) result.first result.second row.new stands.new }
 {
     match settled(n, table, &held_as(book), row, stands) {
