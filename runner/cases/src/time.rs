@@ -1,7 +1,8 @@
 //! How long each call takes, in nanoseconds: the proved calls beside the second program.
 //!
-//! A call is made again and again for a twentieth of a second, and the least time is shown: what else the machine does only
-//! adds to it. A call that only one of the two has is left out.
+//! A call is made again and again for a fifth of a second. Of one that takes less than a millisecond the least time is
+//! shown: what else the machine does only adds to it. Of a longer one the mean is, and only of the time on a processor. A
+//! call that only one of the two has is left out.
 
 use crate::builder::{Book, Builder, Call, Numbers, Proved, Second};
 use crate::case::{text_of, Start};
@@ -14,7 +15,13 @@ use std::time::{Duration, Instant};
 const STEPS: [Call; 8] =
     [Call::Read, Call::Check, Call::Write, Call::Settle, Call::Pin, Call::Build, Call::Fill, Call::Ask];
 
-/// Calls that take longer than this are made once.
+/// How long a call is made again and again.
+const AGAIN: Duration = Duration::from_millis(200);
+
+/// Of calls that take longer than this the mean time on a processor is shown.
+const SHORT: Duration = Duration::from_millis(1);
+
+/// Calls that take longer than this are not counted by valgrind, which takes some fifty times as long.
 const LONG: Duration = Duration::from_secs(1);
 
 /// How many files of a folder are timed: the largest.
@@ -88,24 +95,36 @@ fn measured(builder: &dyn Builder, call: Call, input: &Input, memory: &mut Memor
     }
 }
 
-/// The least time of a call, in nanoseconds.
-fn least<T>(mut call: impl FnMut() -> T) -> u128 {
-    let began = Instant::now();
-    let mut least = Duration::MAX;
-    while began.elapsed() < Duration::from_millis(50) {
+/// How long this thread was on a processor: to some milliseconds, where the system says so.
+fn on_processor() -> Option<Duration> {
+    let said = std::fs::read_to_string("/proc/thread-self/schedstat").ok()?;
+    Some(Duration::from_nanos(said.split(' ').next()?.parse().ok()?))
+}
+
+/// The time of a call, in nanoseconds.
+fn nanoseconds<T>(mut call: impl FnMut() -> T) -> u128 {
+    let (began, before) = (Instant::now(), on_processor());
+    // How long all calls took so far.
+    let so_far = || match (before, on_processor()) {
+        (Some(before), Some(now)) => now - before,
+        _ => began.elapsed(),
+    };
+    let (mut least, mut calls) = (Duration::MAX, 0);
+    while calls == 0 || (if least < SHORT { began.elapsed() } else { so_far() }) < AGAIN {
         let start = Instant::now();
         black_box(call());
         least = least.min(start.elapsed());
-        if least > LONG {
-            break;
-        }
+        calls += 1;
     }
-    least.as_nanos()
+    match least < SHORT {
+        true => least.as_nanos(),
+        false => so_far().as_nanos() / calls,
+    }
 }
 
 fn time(builder: &dyn Builder, call: Call, input: &Input) -> u128 {
     let memory = &mut Memory::new();
-    least(|| measured(builder, call, input, memory))
+    nanoseconds(|| measured(builder, call, input, memory))
 }
 
 /// The table check once more, as a loop with nothing around it.
@@ -198,7 +217,7 @@ pub fn tables(texts: Vec<(String, Vec<u8>)>) {
             let (ours, theirs) = (Some(time(&Proved, call, input)), Some(time(&Second, call, input)));
             let mut cells = vec![cell(ours), cell(theirs), ratio(ours, theirs)];
             if call == Call::Check {
-                let plain = Some(least(|| plain_loop(black_box(input.n), black_box(&input.table))));
+                let plain = Some(nanoseconds(|| plain_loop(black_box(input.n), black_box(&input.table))));
                 cells.extend([cell(plain), ratio(ours, plain)]);
             }
             row(input, rounds, &cells);
