@@ -9,29 +9,11 @@ use Rattle.std.specs.Prelude.{Result, Ok, Err}
 use Rattle.tables.specs.declared.numbers.Refusal.{Refusal}
 use Rattle.tables.specs.declared.numbers.Refusal.TheVariants.{Contradiction, OutOfRange, BookFull, ShortWork}
 use Rattle.tables.specs.Numbers.{Verdict, refuse, first_refusal}
-use Rattle.tables.proofs.Verdicts.{never, refuse_accepts}
 use Rattle.rules.specs.Rounds.{Outcome, impossible, settled, outcome, pinned}
 use Rattle.rules.specs.Pins.{in_force, out_of_range, with_pin}
 use Rattle.rules.specs.declared.book.Book.{Book}
 use Rattle.calls.proofs.Openings.{opening, opening_refuses, opening_passes, opened}
 use Rattle.rules.specs.Calls.{work_short, contradiction, pin_verdict, pin}
-use Rattle.rounds.specs.Rounds.{Settles}
-use Rattle.rounds.specs.declared.settle.Settled.{Settled}
-
--- What the rounds answer is 4 or nothing, as the outcome says.
-pub trial_accepted : (o : Outcome) (s : Settled) (all : List ℕ) (row : List ℤ) → Settles o (Ok s) all row → Ok tt ≡ contradiction o
-unfolding contradiction
-trial_accepted (impossible r) s all row h = never s (Contradiction r) (sym h)
-trial_accepted (settled r st cs) s all row h = refl
-
-pub trial_refused : (o : Outcome) (why : Refusal) (all : List ℕ) (row : List ℤ) → Settles o (Err why) all row → Err why ≡ contradiction o
-unfolding contradiction
-trial_refused (impossible r) why all row h = let again : Refusal → Verdict = λ y. Err y in ap again (ap (cause why) h)
-  where
-    cause : Refusal → Result Settled Refusal → Refusal
-    cause why (Ok s) = why
-    cause why (Err r) = r
-trial_refused (settled r st cs) why all row h = absurd h
 
 -- A pin's tests, one after another.
 module _ (n : ℕ) (t : List ℤ) (b : Book) (room : ℕ) (x : ℤ) where
@@ -69,8 +51,3 @@ module _ (n : ℕ) (t : List ℤ) (b : Book) (room : ℕ) (x : ℤ) where
 pub in_force_with : (b : Book) (x : ℤ) → length b.pins ≡ 64 → b.held < 64 → in_force (with_pin b x) ≡ in_force b ++ (x ∷ [])
 unfolding in_force with_pin
 in_force_with b x e l = rw (add-one b.held) (take-suc-set b.pins b.held x (omega (arith, e)))
-
--- A work buffer that is not short has its room.
-pub room_of : (room : ℕ) → work_short room ≡ Ok tt → 16384 ≤ room
-unfolding work_short
-room_of room e = ltb-false room 16384 (refuse_accepts (ltb room 16384) ShortWork e)

@@ -1,6 +1,7 @@
 // A pin: one literal more that has to hold, booked if the table can still be settled with it. By value, and over a lent book.
 ghost use Rattle.std.specs.Prelude.{◌≡◌, ◌+◌, ◌<◌, ◌≤◌, [], ◌∷◌, ◌++◌, Ok, true, not, length};
 ghost use Rattle.std.specs.List.{list_all};
+ghost use Rattle.tables.specs.Sizes.{most_variables, most_entries};
 ghost use Rattle.tables.specs.Check.{checked};
 ghost use Rattle.rules.specs.Rounds.{outcome, pinned};
 ghost use Rattle.rules.specs.Pins.{in_force, with_pin, out_of_range, book_after};
@@ -11,7 +12,7 @@ use calls::opening::{is_out_of_range, open};
 use rounds::settle::settle;
 use rules::book::Book;
 use tables::numbers::Refusal;
-use tables::sizes::MOST_PINS;
+use tables::sizes::{MOST_PINS, VARIABLE_NUMBERS};
 
 /// The book with one pin more, in the first place past its length.
 #[tactic(auto, using(crate::proofs::PinSteps::in_force_with), unfolding(rules::specs::Pins::with_pin))]
@@ -27,15 +28,15 @@ fn booked(book: Book, entry: i32) -> Book
 }
 
 /// Whether the table can be settled with these pins.
-#[tactic(auto, using(crate::proofs::PinSteps::trial_accepted, crate::proofs::PinSteps::trial_refused))]
+#[tactic(auto, using(rounds::proofs::Outcomes::accepted_verdict, rounds::proofs::Outcomes::refused_verdict))]
 fn trial(n: usize, table: &[i32], pins: &[i32], work: &mut [i32]) -> Result<(), Refusal>
-    requires few { n ≤ 1024 }
+    requires few { n ≤ most_variables }
     requires table { checked n table.now ≡ Ok tt }
     requires pins { list_all (λ x. not (out_of_range n x)) pins.now ≡ true }
-    requires room { 16384 ≤ length work.old }
+    requires room { most_entries ≤ length work.old }
     ensures { result ≡ contradiction (outcome n (pinned table.now pins.now)) }
 {
-    let mut all = [0u16; 1025];
+    let mut all = [0u16; VARIABLE_NUMBERS];
     let (all, _) = all.split_at_mut(n + 1);
     settle(n, table, pins, work, all)?;
     Ok(())

@@ -1,5 +1,5 @@
 -- Laws of the tests in their order.
-use Rattle.std.proofs.Common.{◌≡◌, ◌∙◌, refl, ap, ℕ, List, [], ◌∷◌, ℤ, true, not}
+use Rattle.std.proofs.Common.{◌≡◌, ◌∙◌, refl, ap, ℕ, ◌≤◌, List, [], ◌∷◌, ℤ, true, not, ltb, ltb-false}
 use Rattle.std.specs.Prelude.{Ok, Err}
 use Rattle.std.specs.Result.{result_and}
 use mathlib.Core.List.{Memᴰ}
@@ -9,7 +9,7 @@ use Rattle.tables.specs.Numbers.{Verdict, first_refusal}
 use Rattle.tables.proofs.Verdicts.{all_accept, refuse_accepts, tests-append}
 use Rattle.tables.specs.Check.{checked}
 use Rattle.tables.specs.declared.numbers.Refusal.{Refusal}
-use Rattle.tables.specs.declared.numbers.Refusal.TheVariants.{OutOfRange}
+use Rattle.tables.specs.declared.numbers.Refusal.TheVariants.{OutOfRange, ShortWork}
 use Rattle.rules.specs.Pins.{in_force, out_of_range, book_long}
 use Rattle.rules.specs.Calls.{work_short, held_bad}
 use Rattle.rules.specs.declared.book.Book.{Book}
@@ -43,3 +43,8 @@ module _ (n : ℕ) (t : List ℤ) (b : Book) (room : ℕ) where
         room_is = each (work_short room) (Memᴰ.tail (Memᴰ.head refl));
         pins = list_all-not (out_of_range n) (in_force b) ∙ ap not (refuse_accepts (list_any (out_of_range n) (in_force b)) OutOfRange (each (held_bad n b) (Memᴰ.tail (Memᴰ.tail (Memᴰ.tail (Memᴰ.head refl))))));
       }
+
+-- A work buffer that is not short has its room.
+pub room_of : (room : ℕ) → work_short room ≡ Ok tt → 16384 ≤ room
+unfolding work_short
+room_of room e = ltb-false room 16384 (refuse_accepts (ltb room 16384) ShortWork e)

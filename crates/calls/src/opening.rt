@@ -60,13 +60,21 @@ pub fn pins_in_range(n: usize, book: &Book) -> Result<(), Refusal>
     Ok(())
 }
 
+/// What a call tests behind the table: the work buffer's room, the book's length, the held pins.
+#[tactic(auto, unfolding(tables::specs::Numbers::first_refusal))]
+pub fn open_book(n: usize, book: &Book, room: usize) -> Result<(), Refusal>
+    ensures { result ≡ first_refusal (work_short room ∷ book_long book.now ∷ held_bad n book.now ∷ []) }
+{
+    work_room(room)?;
+    book_length(book)?;
+    pins_in_range(n, book)
+}
+
 /// The opening of a call.
 #[tactic(auto, unfolding(tables::specs::Numbers::first_refusal))]
 pub fn open(n: usize, table: &[i32], book: &Book, room: usize) -> Result<(), Refusal>
     ensures { result ≡ first_refusal (checked n table.now ∷ work_short room ∷ book_long book.now ∷ held_bad n book.now ∷ []) }
 {
     check(n, table)?;
-    work_room(room)?;
-    book_length(book)?;
-    pins_in_range(n, book)
+    open_book(n, book, room)
 }

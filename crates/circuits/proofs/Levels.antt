@@ -56,6 +56,10 @@ pub highest_above : (lv : List ℕ) (inputs : List ℕ) (x : ℕ) → Memᴰ x i
 unfolding highest
 highest_above lv inputs x i = high_above lv inputs 0 x i
 
+pub highest_below : (lv : List ℕ) (inputs : List ℕ) (b : ℕ) → ((v : ℕ) → get_or lv v 0 ≤ b) → highest lv inputs ≤ b
+unfolding highest
+highest_below lv inputs b all = high_below lv inputs 0 b (omega arith) all
+
 -- After j more gates no level is more than j higher than before.
 run_low : (gs : List Gate) (lv : List ℕ) (b : ℕ) → ((v : ℕ) → get_or lv v 0 ≤ b) → (v : ℕ) → get_or (fold level_step lv gs) v 0 ≤ b + length gs
 unfolding level_step highest

@@ -32,6 +32,30 @@ pub record Valid (n : ℕ) (cs : List (List ℕ)) (g : Gate) : Type 0 where
   pub output_of : (l : ℕ) × Memᴰ l anchor × (var l ≡ g.output)
   pub input_of : (x : ℕ) → Memᴰ x g.inputs → (l : ℕ) × Memᴰ l anchor × (var l ≡ var x)
 
+-- Gates taken from clauses: they stand in an order of evaluation, and each is valid.
+pub record Taken (n : ℕ) (cs : List (List ℕ)) (gs : List Gate) : Type 0 where
+  pub order : Ordered gs
+  pub valid : (g : Gate) → Memᴰ g gs → Valid n cs g
+
+pub none_taken : (n : ℕ) (cs : List (List ℕ)) → Taken n cs []
+none_taken n cs = record { order = none; valid = λ g i. absurd (Memᴰ.not-nil i) }
+
+pub place_taken : (n : ℕ) (cs : List (List ℕ)) (gs : List Gate) (g : Gate) → Taken n cs gs → Valid n cs g → allowed n gs g ≡ true → Taken n cs (place n gs g)
+unfolding place
+place_taken n cs gs g t v ok =
+    record {
+      order = place_ordered n gs g t.order (λ h i. let q = (t.valid h i).high in omega arith) (let q = v.high in omega arith) v.self ok;
+      valid = λ h i. new h (Memᴰ.append_cases (filter (λ f. not (marked D f.output)) gs) {t = g ∷ filter (λ f. marked D f.output) gs} i);
+    }
+  where
+    D : List ℕ
+    D = dependents n gs g.output
+
+    new : (h : Gate) → Memᴰ h (filter (λ f. not (marked D f.output)) gs) ⊎ Memᴰ h (g ∷ filter (λ f. marked D f.output) gs) → Valid n cs h
+    new h (inl j) = t.valid h (filter-mem (λ f. not (marked D f.output)) gs h j).0
+    new h (inr (Memᴰ.head q)) = subst (Valid n cs) (sym q) v
+    new h (inr (Memᴰ.tail j)) = t.valid h (filter-mem (λ f. marked D f.output) gs h j).0
+
 module _ (c : List ℕ) (o : ℕ) where
   -- The inputs of a candidate are of the anchor's other variables.
   pub and_input : (x : ℕ) → Memᴰ x (and_form c o).inputs → (l : ℕ) × Memᴰ l (others o c) × (var l ≡ var x)
@@ -54,7 +78,7 @@ module _ (c : List ℕ) (o : ℕ) where
     others_apart x j e = let (k, t) = filter-mem _ c x j in eqb-false x o (not-true _ t) (proper.single x o k i e)
 
 module _ (n : ℕ) (cs : List (List ℕ)) (inside : Inside n cs) (proper : (c : List ℕ) → Memᴰ c cs → Proper c) where
-  candidate_valid : (c : List ℕ) → Memᴰ c cs → (g : Gate) → Memᴰ g (candidates cs c) → Valid n cs g
+  pub candidate_valid : (c : List ℕ) → Memᴰ c cs → (g : Gate) → Memᴰ g (candidates cs c) → Valid n cs g
   unfolding candidates and_form parity
   candidate_valid c k g i =
       let (j, t) = filter-mem (found cs) _ g i in
@@ -91,38 +115,18 @@ module _ (n : ℕ) (cs : List (List ℕ)) (inside : Inside n cs) (proper : (c : 
           cond_both (anchors cs c) (map (parity c) c) [] (λ gs. Memᴰ g gs → found cs g ≡ true → Valid n cs g)
           (λ e j t. let (o, w, q) = Memᴰ.of_map (parity c) c j in subst (Valid n cs) q (parity_valid o w (ap (found cs) q ∙ t))) (λ e j. absurd (Memᴰ.not-nil j))
 
-  pub record Taken (gs : List Gate) : Type 0 where
-    pub order : Ordered gs
-    pub valid : (g : Gate) → Memᴰ g gs → Valid n cs g
-
-  place_taken : (gs : List Gate) (g : Gate) → Taken gs → Valid n cs g → allowed n gs g ≡ true → Taken (place n gs g)
-  unfolding place
-  place_taken gs g t v ok =
-      record {
-        order = place_ordered n gs g t.order (λ h i. let q = (t.valid h i).high in omega arith) (let q = v.high in omega arith) v.self ok;
-        valid = λ h i. new h (Memᴰ.append_cases (filter (λ f. not (marked D f.output)) gs) {t = g ∷ filter (λ f. marked D f.output) gs} i);
-      }
-    where
-      D : List ℕ
-      D = dependents n gs g.output
-
-      new : (h : Gate) → Memᴰ h (filter (λ f. not (marked D f.output)) gs) ⊎ Memᴰ h (g ∷ filter (λ f. marked D f.output) gs) → Valid n cs h
-      new h (inl j) = t.valid h (filter-mem (λ f. not (marked D f.output)) gs h j).0
-      new h (inr (Memᴰ.head q)) = subst (Valid n cs) (sym q) v
-      new h (inr (Memᴰ.tail j)) = t.valid h (filter-mem (λ f. marked D f.output) gs h j).0
-
   -- A rule of choice that allows no more than the first edition.
   module _ (may : List Gate → Gate → Bool) (strict : (gs : List Gate) (g : Gate) → may gs g ≡ true → allowed n gs g ≡ true) where
-    first_taken : (gs more : List Gate) → ((g : Gate) → Memᴰ g more → Valid n cs g) → Taken gs → Taken (take_first may n gs more)
+    first_taken : (gs more : List Gate) → ((g : Gate) → Memᴰ g more → Valid n cs g) → Taken n cs gs → Taken n cs (take_first may n gs more)
     unfolding take_first
     first_taken gs [] h t = t
     first_taken gs (g ∷ more) h t =
-        ⊎_elim (λ (e : may gs g ≡ true). rw (take_first, e) (place_taken gs g t (h g (Memᴰ.head refl)) (strict gs g e))) (λ (e : may gs g ≡ false). rw (take_first, e) (first_taken gs more (λ f i. h f (Memᴰ.tail i)) t))
+        ⊎_elim (λ (e : may gs g ≡ true). rw (take_first, e) (place_taken n cs gs g t (h g (Memᴰ.head refl)) (strict gs g e))) (λ (e : may gs g ≡ false). rw (take_first, e) (first_taken gs more (λ f i. h f (Memᴰ.tail i)) t))
         (cases_Bool (may gs g))
 
-    pub taken_is : Taken (taken_by may n cs)
+    pub taken_is : Taken n cs (taken_by may n cs)
     unfolding taken_by take_at
-    taken_is = fold_keeps (take_at may n cs) Taken cs step [] (record { order = none; valid = λ g i. absurd (Memᴰ.not-nil i) })
+    taken_is = fold_keeps (take_at may n cs) (Taken n cs) cs step [] (none_taken n cs)
       where
-        step : (gs : List Gate) (c : List ℕ) → Memᴰ c cs → Taken gs → Taken (take_at may n cs gs c)
+        step : (gs : List Gate) (c : List ℕ) → Memᴰ c cs → Taken n cs gs → Taken n cs (take_at may n cs gs c)
         step gs c i t = ⊎_elim (λ (e : ltb 2 (length c) ≡ true). rw (take_at, e) (first_taken gs (candidates cs c) (candidate_valid c i) t)) (λ (e : ltb 2 (length c) ≡ false). rw (take_at, e) t) (cases_Bool (ltb 2 (length c)))

@@ -84,7 +84,7 @@ module _ (n : ℕ) (st : List ℕ) (cs : List (List ℕ)) (set : Settled n st cs
   pub settled_inside : Inside n cs
   settled_inside c i l k = let (r, lo, hi) = set.good.over c i l k in (lo, hi)
 
-  pub are_taken : Taken n cs settled_inside set.proper gates
+  pub are_taken : Taken n cs gates
   are_taken = taken_is n cs settled_inside set.proper may strict
 
   pub gates_within : Within n gates

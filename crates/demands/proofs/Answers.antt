@@ -27,11 +27,11 @@ module _ (n : ℕ) (t : List ℤ) (b : Book) (work room : ℕ) where
       checked n t ∷ work_short work ∷ book_long b ∷ held_bad n b ∷ contradiction (outcome_of n t b)
       ∷ refuse (ltb room (length (listed n (outcome_of n t b)))) (ShortBuffer (length (listed n (outcome_of n t b)))) ∷ []
 
-  held_range : held_bad n b ≡ Ok tt → list_all (λ x. not (out_of_range n x)) (in_force b) ≡ true
+  pub held_range : held_bad n b ≡ Ok tt → list_all (λ x. not (out_of_range n x)) (in_force b) ≡ true
   unfolding held_bad
   held_range e = list_all-not (out_of_range n) (in_force b) ∙ ap not (refuse_accepts _ OutOfRange e)
 
-  no_clash : contradiction (outcome_of n t b) ≡ Ok tt → (st : List ℕ) × (cs : List (List ℕ)) × (outcome_of n t b ≡ settled (rounds_in (outcome_of n t b)) st cs)
+  pub no_clash : contradiction (outcome_of n t b) ≡ Ok tt → (st : List ℕ) × (cs : List (List ℕ)) × (outcome_of n t b ≡ settled (rounds_in (outcome_of n t b)) st cs)
   unfolding contradiction rounds_in
   no_clash e = go (outcome_of n t b) e
     where

@@ -115,7 +115,7 @@ give_back_exact n t pins r st cs s c =
     gs : List Gate
     gs = taken_by (allowed n) n cs
 
-    k : Taken n cs (settled_inside n st cs (set n t pins r st cs s) (allowed n) (strict n)) (set n t pins r st cs s).proper gs
+    k : Taken n cs gs
     k = are_taken n st cs (set n t pins r st cs s) (allowed n) (strict n)
 
     apart : (among c (flat_map written_out gs) && among c (residue gs cs)) ≡ true → ⊥

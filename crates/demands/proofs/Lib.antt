@@ -4,4 +4,5 @@ pub mod Forced
 pub mod Demands
 pub mod Night
 pub mod Answers
+pub mod Plans
 pub mod Texts

@@ -3,6 +3,7 @@ ghost use Rattle.demands.specs.Forced.{ForcedClosed, ForcedLeast, ContradictionM
 ghost use Rattle.demands.specs.Demands.{SettlingExact, RoundsBounded, RefusalBounded, LinksToRoots, OnePart, LevelsRise, NoneShared, PatternSays, GiveBack, FilledSatisfies, OwnFilling, OthersIgnored, NonePossible, AskedIsFilled};
 ghost use Rattle.demands.specs.Night.{StackHeld, StackDecides, TakeBackUndoes};
 ghost use Rattle.demands.specs.Answers.{AcceptedSettles, FourIsContradiction, RefusalKeeps};
+ghost use Rattle.demands.specs.Plans.{ListedCircuit, ImpossiblePlan, FilledPlan, OwnPlan, AskedPlace};
 ghost use Rattle.demands.specs.Texts.{ReadsBack, ReadsBackInto};
 
 /// The forced literals of a round.
@@ -50,6 +51,15 @@ pub fn answers()
     ensures accepted { AcceptedSettles }
     ensures four { FourIsContradiction }
     ensures refusal { RefusalKeeps }
+{}
+
+/// What the calls give, said of what is lent and what comes back alone.
+pub fn calls()
+    ensures listed { ListedCircuit }
+    ensures impossible { ImpossiblePlan }
+    ensures filled { FilledPlan }
+    ensures own { OwnPlan }
+    ensures asked { AskedPlace }
 {}
 
 /// Clause text, there and back.

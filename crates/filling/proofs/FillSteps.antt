@@ -1,27 +1,18 @@
 -- Laws of filling in, step by step.
-use Rattle.std.proofs.Common.{◌≡◌, ℕ, suc, ◌+◌, ◌-◌, ◌<◌, ◌≤◌, Bool, true, false, cond, List, ◌++◌, ℤ, map, length, take, drop, get_or, set, sym, refl, arith, append_assoc, append-nil}
+use Rattle.std.proofs.Common.{◌≡◌, ℕ, suc, ◌+◌, ◌-◌, ◌<◌, ◌≤◌, List, ◌++◌, ℤ, map, length, take, drop, get_or, set, sym, refl, arith, append_assoc, append-nil}
 use Rattle.std.specs.List.{range_with_len}
 use Rattle.std.proofs.lemmas.List.{take_more_set, drop_more, take_all, set_past}
 use Rattle.tables.specs.Literal.{var}
-use Rattle.rules.specs.Patterns.{and_form, parity}
 use Rattle.rules.specs.Fill.{fill_step, fill_gates}
 use Rattle.gates.specs.declared.site.Site.{Site}
-use Rattle.gates.specs.Sites.{gate_of, gates_of, anchor_of}
+use Rattle.gates.specs.Sites.{gate_of, gates_of}
+use Rattle.gates.proofs.SiteLaws.{output_at}
 use Rattle.filling.specs.Filling.{shown}
-
--- A site's output.
-pub output_is : (row : List ℤ) (site : Site) → (gate_of row site).output ≡ var site.output
-unfolding gate_of and_form parity
-output_is row site = go site.parity
-  where
-    go : (p : Bool) → (cond p (parity (anchor_of row site) site.output) (and_form (anchor_of row site) site.output)).output ≡ var site.output
-    go true = refl
-    go false = refl
 
 -- An output beyond the values is left out.
 pub step_past : (row : List ℤ) (site : Site) (values : List ℕ) → length values ≤ var site.output - 1 → values ≡ fill_step values (gate_of row site)
 unfolding fill_step
-step_past row site values h = rw (output_is row site) (sym (set_past values (var site.output - 1) _ h))
+step_past row site values h = rw (output_at row site) (sym (set_past values (var site.output - 1) _ h))
 
 -- One gate more is evaluated.
 pub evaluate_turns : (row : List ℤ) (sites : List Site) (values : List ℕ) (i : ℕ) (d : Site) → i < length sites

@@ -1,25 +1,11 @@
 -- The levels, gate by gate.
-use Rattle.std.proofs.Common.{◌≡◌, ◌∙◌, sym, refl, ap, ℕ, ◌+◌, ◌-◌, ◌<◌, ◌≤◌, max, List, [], ◌∷◌, ◌++◌, map, take, ℤ, fold, length, get_or, replicate, slice_range, arith}
-use Rattle.std.proofs.lemmas.List.{take_more, length-map, length-take}
-use Rattle.std.proofs.lemmas.List.Folds.{fold-map}
+use Rattle.std.proofs.Common.{◌≡◌, ◌∙◌, refl, ap, ℕ, ◌+◌, ◌-◌, ◌<◌, ◌≤◌, List, [], ◌∷◌, take, ℤ, fold, length, get_or, replicate, arith}
+use Rattle.std.proofs.lemmas.List.{take_more, length-map, length-take, map-append}
 use Rattle.std.proofs.lemmas.List.Sums.{fold_push}
-use Rattle.tables.specs.Literal.{literal, var}
-use Rattle.rules.specs.Patterns.{Gate, others}
 use Rattle.rules.specs.Circuit.{highest, level_step, levels}
 use Rattle.circuits.proofs.Levels as Circuits
 use Rattle.gates.specs.declared.site.Site.{Site}
-use Rattle.gates.specs.Sites.{anchor_of, gate_of, gates_of}
-use Rattle.gates.proofs.SiteLaws.{vars_at}
-
-highest_vars : (lv xs : List ℕ) → highest lv xs ≡ fold (λ high v. max high (get_or lv v 0)) 0 (map var xs)
-unfolding highest
-highest_vars lv xs = sym (fold-map (λ high v. max high (get_or lv v 0)) var 0 xs)
-
-pub highest_at : (row : List ℤ) (s : Site) (lv : List ℕ)
-    → highest lv (gate_of row s).inputs ≡ fold (λ high l. max high (get_or lv (var l) 0)) 0 (others s.output (map literal (slice_range row s.start s.end)))
-highest_at row s lv =
-    highest_vars lv (gate_of row s).inputs ∙ ap (fold (λ high v. max high (get_or lv v 0)) 0) (vars_at row s)
-    ∙ fold-map (λ high v. max high (get_or lv v 0)) var 0 (others s.output (anchor_of row s))
+use Rattle.gates.specs.Sites.{gate_of, gates_of}
 
 pub levels_none : (k : ℕ) → 1 ≤ k → levels (k - 1) [] ≡ replicate k 0
 unfolding levels
@@ -30,20 +16,11 @@ pub levels_more : (n : ℕ) (row : List ℤ) (sites : List Site) (i : ℕ) (d : 
 unfolding levels
 levels_more n row sites i d h =
     ap (λ xs. levels n (gates_of row xs)) (take_more sites i d h)
-    ∙ ap (fold level_step (replicate (n + 1) 0)) (pushed (take i sites) (get_or sites i d))
+    ∙ ap (fold level_step (replicate (n + 1) 0)) (map-append (gate_of row) (take i sites) (get_or sites i d ∷ []))
     ∙ fold_push level_step (replicate (n + 1) 0) (gates_of row (take i sites)) (gate_of row (get_or sites i d))
-  where
-    pushed : (xs : List Site) (x : Site) → gates_of row (xs ++ (x ∷ [])) ≡ gates_of row xs ++ (gate_of row x ∷ [])
-    pushed [] x = refl
-    pushed (y ∷ xs) x = ap (λ gs. gate_of row y ∷ gs) (pushed xs x)
-
-high_below : (lv inputs : List ℕ) (k b : ℕ) → k ≤ b → ((v : ℕ) → get_or lv v 0 ≤ b) → fold (λ k x. max k (get_or lv (var x) 0)) k inputs ≤ b
-high_below lv [] k b h all = h
-high_below lv (x ∷ inputs) k b h all = let q = all (var x) in high_below lv inputs (max k (get_or lv (var x) 0)) b (omega arith) all
 
 -- No level is higher than the number of gates before.
-pub levels_low : (n : ℕ) (row : List ℤ) (sites : List Site) (i : ℕ) (g : Gate) → highest (levels n (gates_of row (take i sites))) g.inputs ≤ i
-unfolding highest
-levels_low n row sites i g =
-    high_below (levels n (gates_of row (take i sites))) g.inputs 0 i (omega arith)
+pub levels_low : (n : ℕ) (row : List ℤ) (sites : List Site) (i : ℕ) (inputs : List ℕ) → highest (levels n (gates_of row (take i sites))) inputs ≤ i
+levels_low n row sites i inputs =
+    Circuits.highest_below (levels n (gates_of row (take i sites))) inputs i
     (λ v. let q = Circuits.levels_low n (gates_of row (take i sites)) v in omega (arith, length-map (take i sites) (gate_of row), length-take i sites))

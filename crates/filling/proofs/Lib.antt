@@ -1,7 +1,6 @@
 -- Lemmas of residue, levels, filling in and asking.
 pub mod LevelSteps
 pub mod PatternParts
-pub mod GroupSteps
 pub mod AskSteps
 pub mod FillSteps
 pub mod Filled

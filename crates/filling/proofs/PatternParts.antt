@@ -1,25 +1,39 @@
 -- The clauses of a gate's pattern at its site.
-use Rattle.std.proofs.Common.{◌≡◌, ◌∙◌, refl, sym, ap, ℕ, ◌<◌, ◌≤◌, Bool, true, false, cond, not, ◌&&◌, ◌||◌, List, [], ◌∷◌, map, eqb, filter, ℤ, slice_range, arith}
+use Rattle.std.proofs.Common.{◌≡◌, ◌∙◌, refl, sym, ap, ℕ, Bool, true, false, cond, not, ◌&&◌, ◌||◌, List, [], ◌∷◌, map, length, eqb, filter, ℤ, slice_range, ⊎_elim, eq-eqb}
 use Rattle.std.specs.List.{list_any}
-use Rattle.ways.specs.Ways.{among, same}
-use Rattle.ways.proofs.Rows.{list_any-map}
+use Rattle.std.specs.Cmp.Lexicographic.{bytes_decides}
+use Rattle.std.proofs.Math.Bool.{or-true}
+use Rattle.std.proofs.lemmas.Bool.{and_parts, cases_lt, false_from_ne_true, false≢true}
+use Rattle.std.proofs.lemmas.List.{length-map}
+use Rattle.ways.specs.Ways.{among, has, same}
+use Rattle.ways.proofs.Rows.{list_any-map, list_any-mem}
 use Rattle.tables.specs.Literal.{literal, opp}
-use Rattle.tables.proofs.Literals.{opp-opp}
-use Rattle.rules.specs.Clean.{insert}
+use Rattle.rules.proofs.SideLaws.{side_rises, side_falls}
 use Rattle.rules.specs.Patterns.{others, side, group, and_form, parity}
 use Rattle.gates.specs.declared.site.Site.{Site}
 use Rattle.gates.specs.Sites.{anchor_of, gate_of}
 
-opp_other : (o x : ℕ) → (o ≡ x → ⊥) → opp o ≡ opp x → ⊥
-opp_other o x h e = h (sym (opp-opp o) ∙ ap opp e ∙ opp-opp x)
+-- The clause of the output with another literal has two literals, and one is the output's opposite.
+two_of : (o x : ℕ) → (o ≡ x → ⊥) → (d : List ℕ) → d ≡ side o x → (length d ≡ 2) × (has (opp o) d ≡ true)
+two_of o x n d e =
+    ⊎_elim
+    (λ l. let q : d ≡ opp o ∷ opp x ∷ [] = e ∙ side_rises o x l in (ap length q, ap (has (opp o)) q ∙ rw (eq-eqb (opp o) (opp o) refl) refl))
+    (λ l. let q : d ≡ opp x ∷ opp o ∷ [] = e ∙ side_falls o x n l in (ap length q, ap (has (opp o)) q ∙ rw (eq-eqb (opp o) (opp o) refl) (or-true (eqb (opp o) (opp x)))))
+    (cases_lt (opp o) (opp x))
 
-pub side_rises : (o x : ℕ) → opp o < opp x → side o x ≡ opp o ∷ opp x ∷ []
-unfolding side insert
-side_rises o x l = grind arith
+any_two : (d c : List ℕ) (o : ℕ) → list_any (λ x. not (eqb x o) && same d (side o x)) c ≡ true → (length d ≡ 2) × (has (opp o) d ≡ true)
+any_two d c o e =
+    let (x, i, h) = list_any-mem (λ x. not (eqb x o) && same d (side o x)) c e in
+    let (n, q) = and_parts (not (eqb x o)) (same d (side o x)) h in
+    two_of o x (λ w. false≢true (sym (ap not (eq-eqb x o (sym w))) ∙ n)) d ((bytes_decides d (side o x)).0 q)
 
-pub side_falls : (o x : ℕ) → (o ≡ x → ⊥) → opp x ≤ opp o → side o x ≡ opp x ∷ opp o ∷ []
-unfolding side insert
-side_falls o x h l = let n : opp o ≡ opp x → ⊥ = opp_other o x h in grind arith
+-- So another clause is none of these.
+pub no_side : (clause anchor : List ℤ) (o : ℕ) → (eqb (length clause) 2 && has (opp o) (map literal clause)) ≡ false
+    → list_any (λ x. not (eqb x o) && same (map literal clause) (side o x)) (map literal anchor) ≡ false
+no_side clause anchor o e =
+    false_from_ne_true _
+    (λ q. let (two, h) = any_two (map literal clause) (map literal anchor) o q in
+    false≢true (sym e ∙ rw (eq-eqb (length clause) 2 (sym (length-map clause literal) ∙ two), h) refl))
 
 -- Does a clause of what is kept pass a test?
 kept_any : {X : Type 0} (t d : X → Bool) (xs : List X) → list_any t (filter (λ x. not (d x)) xs) ≡ list_any (λ x. not (d x) && t x) xs

@@ -1,7 +1,6 @@
 -- Asking for one variable: the circuit that is asked, the answers, and what is remembered of them.
-use Rattle.std.specs.Prelude.{◌≡◌, ℕ, ◌≤◌, Bool, cond, List, length, get_or, eqb, Option, None, Some}
+use Rattle.std.specs.Prelude.{◌≡◌, ℕ, ◌≤◌, Bool, List, length, get_or, Option, None, Some}
 use mathlib.Core.List.{Memᴰ}
-use Rattle.std.specs.List.{All}
 use Rattle.tables.specs.Literal.{valued}
 use Rattle.rules.specs.Patterns.{Gate}
 use Rattle.rules.specs.Circuit.{levels}
@@ -9,34 +8,23 @@ use Rattle.rules.specs.Fill.{fill_gates}
 use Rattle.circuits.proofs.Order.{Ordered}
 use Rattle.gates.specs.declared.site.Site.{Site}
 use Rattle.filling.specs.declared.ask.Circuit.{Circuit}
-use Rattle.gates.specs.Sites.{Within, gates_of}
-
-abbrev pub gates_in : Circuit → List Gate
-gates_in c = gates_of c.row.now c.sites.now
+use Rattle.gates.specs.TakenGates.{gates_in}
 
 -- The gates stand in an order of evaluation, and their outputs have values.
 pub record IsCircuit (c : Circuit) : Type 0 where
-  pub within : All (Within c.row.now) c.sites.now
-  pub ordered : Ordered (gates_in c)
-  pub outputs : (g : Gate) → Memᴰ g (gates_in c) → (1 ≤ g.output) × (g.output ≤ length c.given.now)
+  pub ordered : Ordered (gates_in c.taken)
+  pub outputs : (g : Gate) → Memᴰ g (gates_in c.taken) → (1 ≤ g.output) × (g.output ≤ length c.given.now)
 
 pub record IsTaken (c : Circuit) (site : Site) : Type 0 where
-  pub member : Memᴰ site c.sites.now
+  pub member : Memᴰ site c.taken.sites.now
 
 -- A variable's value in the end, and its level.
 unfoldable pub ended : Circuit → ℕ → Bool
-ended c v = valued (fill_gates (gates_in c) c.given.now) v
+ended c v = valued (fill_gates (gates_in c.taken) c.given.now) v
 
 unfoldable pub level : Circuit → ℕ → ℕ
-level c v = get_or (levels (length c.given.now) (gates_in c)) v 0
-
--- What a place of the memory says: 0 that the answer is not known, 1 that it is no, 2 that it is yes.
-abbrev pub known : Bool → ℕ
-known b = cond b 2 1
-
-abbrev pub recalled : List ℕ → ℕ → Option Bool
-recalled memo v = cond (eqb (get_or memo v 0) 0) None (Some (eqb (get_or memo v 0) 2))
+level c v = get_or (levels (length c.given.now) (gates_in c.taken)) v 0
 
 -- Every remembered answer is right.
-pub record Remembers (c : Circuit) (memo : List ℕ) : Type 0 where
-  pub right : (v : ℕ) → (get_or memo v 0 ≡ 0 → ⊥) → get_or memo v 0 ≡ known (ended c v)
+pub record Remembers (c : Circuit) (memo : List (Option Bool)) : Type 0 where
+  pub right : (v : ℕ) (b : Bool) → get_or memo v None ≡ Some b → b ≡ ended c v

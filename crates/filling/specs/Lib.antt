@@ -2,4 +2,3 @@
 pub mod Asking
 pub mod Filling
 pub mod Places
-pub mod Alike

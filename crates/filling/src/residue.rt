@@ -1,65 +1,54 @@
 // Whether a clause is in the pattern of a gate taken. What is in none is the residue.
-ghost use Rattle.std.specs.Prelude.{◌≡◌, ◌≢◌, ◌&&◌, ◌∷◌, [], map, not, eqb};
-ghost use Rattle.std.specs.List.{All, list_any};
-ghost use Rattle.ways.specs.Ways.{among, same};
-ghost use Rattle.tables.specs.Literal.{literal, var};
+ghost use Rattle.std.specs.Prelude.{◌≡◌, ◌≢◌, ◌&&◌, map, not, eqb, length};
+ghost use Rattle.std.specs.List.{list_any};
+ghost use Rattle.ways.specs.Ways.{among, has, same};
+ghost use Rattle.tables.specs.Literal.{literal, opp};
 ghost use Rattle.rules.specs.Patterns.{group, side};
 ghost use Rattle.rules.specs.Circuit.{in_pattern};
-ghost use Rattle.gates.specs.Sites.{Within, gate_of, gates_of};
+ghost use Rattle.gates.specs.Sites.{Within, gate_of};
+ghost use Rattle.gates.specs.TakenGates.{gates_in};
 
 use gates::site::Site;
-use tables::clause::is_same;
-use tables::literal::{literal, opposite, var};
+use gates::taken::Taken;
+use gates::value::is_odd;
+use rules::sides::side;
+use tables::clause::{has_literal, has_variables_of, is_clause_of, is_same};
+use tables::literal::{literal, opposite};
 
-/// Whether the clause is that of two literals.
-fn is_clause_of(clause: &[i32], x: usize, y: usize) -> bool
-    ensures { result ≡ same (map literal clause.now) (x ∷ y ∷ []) }
-{
-    clause.len() == 2 && literal(clause[0]) == x && literal(clause[1]) == y
-}
-
-/// Whether the clause is that of the opposites of two literals.
-#[tactic(auto, using(crate::proofs::PatternParts::side_rises, crate::proofs::PatternParts::side_falls))]
+/// Whether the clause is that of the output with another literal: of the opposites of both.
 fn is_side(clause: &[i32], output: usize, other: usize) -> bool
     requires { output ≢ other }
     ensures { result ≡ same (map literal clause.now) (side output other) }
 {
-    let x = opposite(output);
-    let y = opposite(other);
-    if x < y {
-        is_clause_of(clause, x, y)
-    } else {
-        is_clause_of(clause, y, x)
-    }
+    let (x, y) = side(output, other);
+    is_clause_of(clause, x, y)
 }
 
-/// Whether the clause is that of the output with one of the anchor's other literals.
+/// Whether the clause has two literals, and the opposite of the output is one: else it is that of the output with no other.
+fn may_be_side(clause: &[i32], output: usize) -> bool
+    ensures { result ≡ (eqb (length clause.now) 2 && has (opp output) (map literal clause.now)) }
+{
+    clause.len() == 2 && has_literal(clause, opposite(output))
+}
+
+/// Whether the clause is that of the output with one of the anchor's other literals. The anchor is walked only where it may be.
 fn is_partner(clause: &[i32], anchor: &[i32], output: usize) -> bool
     ensures { result ≡ list_any (λ x. not (eqb x output) && same (map literal clause.now) (side output x)) (map literal anchor.now) }
 {
-    anchor
-        .iter()
-        .map(|&entry| literal(entry))
-        .any(|x| x != output && is_side(clause, output, x))
+    may_be_side(clause, output)
+        && anchor
+            .iter()
+            .map(|&entry| literal(entry))
+            .any(|x| x != output && is_side(clause, output, x))
 }
 
-/// Whether the clause is of the anchor's parity group: over the same variables, an even number of them with the other sign.
-#[tactic(auto, using(crate::proofs::GroupSteps::alike_begins, crate::proofs::GroupSteps::alike_apart, crate::proofs::GroupSteps::alike_on, crate::proofs::GroupSteps::alike_ends, crate::proofs::GroupSteps::alike_longer))]
+/// Whether the clause is of the anchor's parity group: over the same variables, with as many negative literals, odd or even.
+// The search for patterns has the same by sign masks, which hold five literals; here nothing says that the anchor is so short.
+#[tactic(auto, using(rules::proofs::Groups::group_by_odd, rules::proofs::Groups::other_vars))]
 fn is_alike(clause: &[i32], anchor: &[i32]) -> bool
     ensures { result ≡ among (map literal clause.now) (group (map literal anchor.now)) }
 {
-    if clause.len() != anchor.len() {
-        return false;
-    }
-    let mut odd = false;
-    for (&entry, &other) in clause.iter().zip(anchor) {
-        let (entry, other) = (literal(entry), literal(other));
-        if var(entry) != var(other) {
-            return false;
-        }
-        odd = odd != (entry != other);
-    }
-    !odd
+    has_variables_of(clause, anchor) && is_odd(clause) == is_odd(anchor)
 }
 
 /// Whether the clause is in the gate's pattern.
@@ -78,12 +67,11 @@ fn is_in(row: &[i32], site: Site, clause: &[i32]) -> bool
 
 /// Whether the clause is in the pattern of one of the gates.
 #[tactic(auto, unfolding(rules::specs::Circuit::in_pattern))]
-pub fn in_pattern(row: &[i32], sites: &[Site], clause: &[i32]) -> bool
-    requires { All (Within row.now) sites.now }
-    ensures { result ≡ in_pattern (gates_of row.now sites.now) (map literal clause.now) }
+pub fn in_pattern(taken: &Taken, clause: &[i32]) -> bool
+    ensures { result ≡ in_pattern (gates_in taken.now) (map literal clause.now) }
 {
-    for &site in sites {
-        if is_in(row, site, clause) {
+    for &site in taken.sites {
+        if is_in(taken.row, site, clause) {
             return true;
         }
     }

@@ -5,9 +5,8 @@ use Rattle.std.specs.List.{list_any, list_all, count_by}
 use Rattle.std.proofs.lemmas.Bool.Decides.{nat_tests}
 use Rattle.std.proofs.lemmas.List.Sums.{count_by-le-length, sum_by-cons}
 use Rattle.ways.specs.Ways.{oddly}
-use Rattle.ways.proofs.Rows.{list_all-not}
-use Rattle.tables.specs.Literal.{var, neg, holds}
-use Rattle.rules.specs.Kinds.{signs, rule}
+use Rattle.tables.specs.Literal.{var, holds}
+use Rattle.rules.specs.Kinds.{rule}
 use Rattle.gates.specs.Counting.{counts, by_count}
 
 all_step : (b : Bool) (n m : ℕ) → n ≤ m → (b && eqb n m) ≡ eqb (cond b 1 0 + n) (suc m)
@@ -52,8 +51,3 @@ module _ (a : ℕ → Bool) (ls : List ℕ) where
   counted (suc (suc (suc (suc (suc (suc zero)))))) h = sym (odd_count (λ l. a (var l)) ls)
   counted (suc (suc (suc (suc (suc (suc (suc zero))))))) h = sym (ap not (odd_count (λ l. a (var l)) ls))
   counted (suc (suc (suc (suc (suc (suc (suc (suc k)))))))) h = absurd (omega arith)
-
--- The signs from the number of negative literals.
-pub signs_counted : (ls : List ℕ) → signs ls ≡ cond (eqb (count_by neg ls) 0) 0 (cond (eqb (count_by neg ls) (length ls)) 1 2)
-unfolding signs
-signs_counted ls = rw (list_all-not neg ls, any_count neg ls, none_step (count_by neg ls), all_count neg ls)

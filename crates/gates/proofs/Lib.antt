@@ -4,3 +4,4 @@ pub mod OutputLaws
 pub mod Counts
 pub mod KindTable
 pub mod SiteGates
+pub mod InputSteps

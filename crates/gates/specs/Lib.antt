@@ -4,3 +4,4 @@ pub mod Inputs
 pub mod KindRows
 pub mod Sites
 pub mod Outputs
+pub mod TakenGates

@@ -2,7 +2,7 @@
 // follows from these (`gate_of`).
 
 /// A gate found at an anchor.
-#[derive(Clone, Copy, Debug, PartialEq, Eq)]
+#[derive(Clone, Copy, Debug, Default, PartialEq, Eq)]
 pub struct Site {
     /// The anchor's first entry in the row.
     pub start: usize,

@@ -1,13 +1,14 @@
 // A gate's value: each kind has its own rule, from how many inputs are true and how many there are.
-ghost use Rattle.std.specs.Prelude.{◌≡◌, ◌<◌, ◌≤◌, map};
-ghost use Rattle.tables.specs.Literal.{literal, valued};
+ghost use Rattle.std.specs.Prelude.{◌≡◌, ◌<◌, ◌≤◌, map, not};
+ghost use Rattle.std.specs.List.{list_all};
+ghost use Rattle.tables.specs.Literal.{literal, neg, valued};
 ghost use Rattle.rules.specs.Kinds.{signs, rule};
 ghost use Rattle.rules.specs.Patterns.{odd};
 ghost use Rattle.gates.specs.Sites.{Within, gate_of};
 ghost use Rattle.gates.specs.Inputs.{inputs};
 ghost use Rattle.gates.specs.Counting.{by_count};
 
-use crate::inputs::{input_count, negative_count, true_count};
+use crate::inputs::{input_count, true_count};
 use crate::kinds::{AND, CG, DG, NAND, NOR, OR, XNOR, XOR};
 use crate::site::Site;
 use tables::literal::{is_negative, literal};
@@ -31,6 +32,7 @@ pub fn rule_of(kind: u8, trues: usize, inputs: usize) -> bool
 }
 
 /// Whether an odd number of the clause's literals is negative.
+// Counted, for a clause of any length: the search for patterns has it for at most five literals, as ones of their sign mask.
 #[tactic(auto, using(crate::proofs::Counts::odd_count), unfolding(rules::specs::Patterns::odd))]
 pub fn is_odd(clause: &[i32]) -> bool
     ensures { result ≡ odd (map literal clause.now) }
@@ -43,17 +45,32 @@ pub fn is_odd(clause: &[i32]) -> bool
     negatives % 2 == 1
 }
 
+/// Whether no input is negative.
+fn are_positive(row: &[i32], site: Site) -> bool
+    requires { Within row.now site }
+    ensures { result ≡ list_all (λ l. not (neg l)) (inputs row.now site) }
+{
+    site.inputs(row).all(|l| !is_negative(l))
+}
+
+/// Whether every input is negative.
+fn are_negative(row: &[i32], site: Site) -> bool
+    requires { Within row.now site }
+    ensures { result ≡ list_all neg (inputs row.now site) }
+{
+    site.inputs(row).all(|l| is_negative(l))
+}
+
 /// The signs of a gate's inputs, as the kind table has them.
-#[tactic(auto, using(crate::proofs::Counts::signs_counted))]
+#[tactic(auto, unfolding(rules::specs::Kinds::signs))]
 fn signs(row: &[i32], site: Site) -> u8
     requires { Within row.now site }
     ensures is { result ≡ signs (inputs row.now site) }
     ensures within { result ≤ 2 }
 {
-    let negatives = negative_count(row, site);
-    if negatives == 0 {
+    if are_positive(row, site) {
         0
-    } else if negatives == input_count(row, site) {
+    } else if are_negative(row, site) {
         1
     } else {
         2

@@ -1,7 +1,6 @@
 -- Laws of the index: where a row's clauses of one key are.
-use Rattle.std.proofs.Common.{◌≡◌, ◌∙◌, refl, sym, ap, subst, ℕ, ◌+◌, ◌*◌, ◌%◌, ◌<◌, ◌≤◌, ⊎_elim, List, [], ◌∷◌, ◌++◌, map, length, get_or, set, drop, replicate, ℤ, pos, eqb, filter, arith, ne_eqb, eq-eqb, get_or-set_other, get_or-set_same, length-set, append_assoc, SFits, w32, to_z, of_z}
+use Rattle.std.proofs.Common.{◌≡◌, ◌∙◌, refl, sym, ap, subst, ℕ, ◌+◌, ◌*◌, ◌%◌, ◌<◌, ◌≤◌, ⊎_elim, List, [], ◌∷◌, ◌++◌, map, length, get_or, set, drop, replicate, ℤ, pos, eqb, filter, arith, ne_eqb, eq-eqb, get_or-set_other, get_or-set_same, length-set, append_assoc}
 use Rattle.std.proofs.lemmas.Bool.{cases_eq}
-use Rattle.std.proofs.lemmas.Int.{to_z-of_z}
 use Rattle.std.proofs.lemmas.List.{drop_all, drop_more, get_or-replicate, length-replicate, append-nil}
 use Rattle.tables.specs.Literal.{literal, var}
 use Rattle.tables.specs.Clause.{clauses_from, clauses}
@@ -96,8 +95,6 @@ heads_start row heads h f = record {
     alike = rw (f j l, drop_all (length row) row (omega arith)) refl;
     keyed = λ m. absurd (let e = f j l in omega arith);
   };
-  later = λ j l m. absurd (omega arith);
-  above = λ j l. let e = f j l in omega arith;
 }
 
 pub filled : (row : List ℤ) (n : ℕ) → n ≡ 1024 → Heads row (length row) 0 (replicate n (length row))
@@ -113,8 +110,6 @@ module _ (row : List ℤ) (i k : ℕ) (heads : List ℕ) (h : i < length row) (n
     keys = length-set heads k (i + 1) ∙ now.keys;
     open_key = none_open ∙ ap key (sym part);
     leads = λ j l. subst (λ zs. Leads row j zs (get_or (set heads k (i + 1)) j 0)) (sym rest) (⊎_elim (own j) (other j l) (cases_eq j k));
-    later = λ j l m. beyond j l;
-    above = λ j l. let m = beyond j l in omega arith;
   }
     where
       zero : literal (get_or row i (pos 0)) ≡ 0
@@ -129,11 +124,6 @@ module _ (row : List ℤ) (i k : ℕ) (heads : List ℕ) (h : i < length row) (n
       inside : k < length heads
       inside = let q = now.keys in omega arith
 
-      beyond : (j : ℕ) → j < 1024 → i < get_or (set heads k (i + 1)) j 0
-      beyond j l =
-          ⊎_elim (λ (q : j ≡ k). rw (q, get_or-set_same heads k (i + 1) 0 inside) (omega arith))
-          (λ (n : j ≡ k → ⊥). rw (get_or-set_other heads k j (i + 1) 0 n) (let m = now.above j l in omega arith)) (cases_eq j k)
-
       own : (j : ℕ) → j ≡ k → Leads row j (drop (i + 1) row) (get_or (set heads k (i + 1)) j 0)
       own j q = rw (q, get_or-set_same heads k (i + 1) 0 inside) (record { alike = refl; keyed = λ _. sym now.open_key })
 
@@ -146,8 +136,6 @@ module _ (row : List ℤ) (i k : ℕ) (heads : List ℕ) (h : i < length row) (n
     keys = now.keys;
     open_key = one_more ∙ ap key (sym part);
     leads = λ j l. subst (λ zs. Leads row j zs (get_or heads j 0)) (sym rest) (now.leads j l);
-    later = λ j l m. let n = now.above j l in omega arith;
-    above = λ j l. let n = now.above j l in omega arith;
   }
     where
       some : literal (get_or row i (pos 0)) ≡ 0 → ⊥
@@ -173,16 +161,12 @@ links_set row i k heads links h now b old = record {
     same = get_or-set_same links i (get_or heads k 0) 0 (let r = old.room in omega arith)
 
     here : Linked row (set links i (get_or heads k 0)) i
-    here = record {
-      later = rw (same) (now.later k b h);
-      leads = rw (same, ← now.open_key) (now.leads k b);
-    }
+    here = rw (same, ← now.open_key) (now.leads k b)
 
     there : (s : ℕ) → i ≤ s → s < length row → (s ≡ i → ⊥) → Linked row (set links i (get_or heads k 0)) s
     there s l m n =
         let o : get_or (set links i (get_or heads k 0)) s 0 ≡ get_or links s 0 = get_or-set_other links i s (get_or heads k 0) 0 n in
-        let q = old.next s (omega arith) m in
-        record { later = rw (o) q.later; leads = rw (o) q.leads }
+        rw (o) (old.next s (omega arith) m)
 
 -- All is read back.
 pub indexed : (row : List ℤ) (k : ℕ) (heads links : List ℕ) → Heads row 0 k heads → k < 1024 → Links row 0 links → Indexed row (set heads k 0) links
@@ -198,10 +182,3 @@ indexed row k heads links now b old = record {
 
     other : (j : ℕ) → j < 1024 → (j ≡ k → ⊥) → Leads row j row (get_or (set heads k 0) j 0)
     other j l n = rw (get_or-set_other heads k j 0 0 n) (record { alike = other_key j row (λ q. n (sym (now.open_key ∙ q))) (parts row) ∙ (now.leads j l).alike; keyed = (now.leads j l).keyed })
-
--- What a test of an entry says.
-pub is_end : (z : ℤ) → SFits w32 z → of_z w32 z ≡ 0 → z ≡ pos 0
-is_end z f e = sym (to_z-of_z w32 z f) ∙ ap (to_z w32) e
-
-pub no_end : (z : ℤ) → (of_z w32 z ≡ 0 → ⊥) → z ≡ pos 0 → ⊥
-no_end z h e = h (ap (of_z w32) e)

@@ -1,10 +1,8 @@
 -- Lemmas of the search for patterns.
 pub mod Chains
-pub mod Groups
-pub mod Left
+pub mod Forms
+pub mod Keyed
 pub mod Masks
 pub mod Ones
-pub mod Same
-pub mod Scans
-pub mod Sides
+pub mod Steps
 pub mod Whole

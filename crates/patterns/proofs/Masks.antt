@@ -12,9 +12,9 @@ use Rattle.ways.specs.Ways.{same}
 use Rattle.tables.specs.Literal.{var}
 use Rattle.tables.proofs.Literals.{var_pos, var-neg, neg_pos, neg-neg, two_forms}
 use Rattle.rules.specs.Patterns.{signings, odd}
+use Rattle.rules.proofs.Groups.{signings_cons}
 use Rattle.patterns.specs.Seen.{signs}
 use Rattle.patterns.proofs.Ones.{one_if, signs_cons}
-use Rattle.patterns.proofs.Groups.{signings_cons}
 
 abbrev pub Test : Type 0
 Test = List ℕ → Bool

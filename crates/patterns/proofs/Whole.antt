@@ -3,27 +3,20 @@ use Rattle.std.proofs.Common.{◌≡◌, ◌∙◌, refl, sym, ap, ℕ, suc, ◌
 use Rattle.std.specs.Cmp.Lexicographic.{bytes_decides}
 use Rattle.std.specs.Int.RustNames.{count_ones}
 use Rattle.std.specs.List.{count_by, fold, list_all, list_any}
-use Rattle.std.proofs.lemmas.Bool.{cases_Bool, and_parts}
+use Rattle.std.proofs.lemmas.Bool.{cases_Bool}
 use Rattle.std.proofs.lemmas.List.{length-map}
 use Rattle.std.proofs.lemmas.List.Sums.{sum_by-cons, count_by-le-length}
 use Rattle.std.proofs.lemmas.Nat.{one_shl}
-use Rattle.std.proofs.Math.Bool.{beq, xor, and-false, or-false, or_assoc}
+use Rattle.std.proofs.Math.Bool.{xor, and-false, or-false, or_assoc}
 use Rattle.ways.specs.Ways.{same, among}
-use Rattle.ways.proofs.Bools.{agree}
 use Rattle.tables.specs.Literal.{literal, var}
 use Rattle.tables.specs.Clause.{clauses}
+use Rattle.tables.proofs.SameEntries.{same_sym}
 use Rattle.rules.specs.Patterns.{first_of, signings, odd, group}
+use Rattle.rules.proofs.Groups.{group_size, in_group, group_vars}
 use Rattle.patterns.specs.Seen.{see, seen}
 use Rattle.patterns.proofs.Ones.{one_if}
-use Rattle.patterns.proofs.Groups.{over, in_signings, group_size}
 use Rattle.patterns.proofs.Masks.{Test, mask, mask_alike, mask_none, mask_one, mask_or, agrees, ones_mask}
-
-pub in_group : (c d : List ℕ) → among d (group c) ≡ over (map var c) (odd c) d
-unfolding group
-in_group c d = in_signings (map var c) (odd c) d
-
-pub group_vars : (c d : List ℕ) → among d (group c) ≡ true → map var d ≡ map var c
-group_vars c d e = (bytes_decides (map var d) (map var c)).0 (and_parts (same (map var d) (map var c)) (not (xor (odd d) (odd c))) (sym (in_group c d) ∙ e)).0
 
 -- One clause is seen.
 see_mask : (c : List ℕ) (t : Test) (d : List ℕ) → see c (mask t (map var c)) d ≡ mask (λ e. t e || (among d (group c) && same d e)) (map var c)
@@ -40,9 +33,6 @@ seen_from c t (d ∷ cs) =
     ap (λ m. fold (see c) m cs) (see_mask c t d)
     ∙ seen_from c (λ e. t e || (among d (group c) && same d e)) cs
     ∙ mask_alike (λ e. (t e || (among d (group c) && same d e)) || list_any (λ x. among x (group c) && same x e) cs) (λ e. t e || list_any (λ x. among x (group c) && same x e) (d ∷ cs)) (map var c) (λ e _. or_assoc (t e) (among d (group c) && same d e) (list_any (λ x. among x (group c) && same x e) cs))
-
-same_sym : (d e : List ℕ) → same d e ≡ same e d
-same_sym d e = agree (same d e) (same e d) (λ q. (bytes_decides e d).1 (sym ((bytes_decides d e).0 q))) (λ q. (bytes_decides d e).1 (sym ((bytes_decides e d).0 q)))
 
 table : (x y : Bool) → ((x && true) || (y && x)) ≡ x
 table x y = search rules
@@ -85,16 +75,6 @@ whole_row row c h k =
     let n : length (map literal c) ≡ length c = length-map c literal in
     let p : 0 < length (map literal c) = rw (n) h in
     rw (one_shl (length c - 1) 32 (omega arith), ← n) (whole_ones (clauses row) (map literal c) p)
-
-xor_beq : (p q : Bool) → not (xor p q) ≡ beq p q
-unfolding xor
-xor_beq p q = search rules
-
-pub group_by_odd : (c d : List ℕ) → same (map var d) (map var c) ≡ true → beq (odd d) (odd c) ≡ among d (group c)
-group_by_odd c d h = sym (in_group c d ∙ rw (h) (xor_beq (odd d) (odd c)))
-
-pub other_vars : (c d : List ℕ) → same (map var d) (map var c) ≡ false → among d (group c) ≡ false
-other_vars c d h = in_group c d ∙ rw (h) refl
 
 pub first_of_none : (ds : List (List ℕ)) (c : List ℤ) → 0 < length c → same (first_of ds []) (map literal c) ≡ false
 unfolding first_of

@@ -21,15 +21,18 @@ key (l ∷ c) = (31 * key c + var l) % 1024
 unfoldable pub with_key : ℕ → List (List ℕ) → List (List ℕ)
 with_key k cs = filter (λ c. eqb (key c) k) cs
 
+-- The clause that starts at a place of the row is of the key.
+abbrev pub Begins : List ℤ → ℕ → ℕ → Type 0
+Begins row k at = at < length row → key (first_part (drop at row)) ≡ k
+
 -- The clauses of a key among some entries are those from a place of the row on, and the first of these starts there.
 pub record Leads (row : List ℤ) (k : ℕ) (zs : List ℤ) (at : ℕ) : Type 0 where
   pub alike : with_key k (clauses zs) ≡ with_key k (clauses (drop at row))
-  pub keyed : at < length row → key (first_part (drop at row)) ≡ k
+  pub keyed : Begins row k at
 
 -- The link of a place leads on behind the clause that starts there.
-pub record Linked (row : List ℤ) (links : List ℕ) (s : ℕ) : Type 0 where
-  pub later : s < get_or links s 0
-  pub leads : Leads row (key (first_part (drop s row))) (behind (drop s row)) (get_or links s 0)
+abbrev pub Linked : List ℤ → List ℕ → ℕ → Type 0
+Linked row links s = Leads row (key (first_part (drop s row))) (behind (drop s row)) (get_or links s 0)
 
 pub record Indexed (row : List ℤ) (heads links : List ℕ) : Type 0 where
   pub keys : length heads ≡ 1024
@@ -42,8 +45,6 @@ pub record Heads (row : List ℤ) (i k : ℕ) (heads : List ℕ) : Type 0 where
   pub keys : length heads ≡ 1024
   pub open_key : k ≡ key (first_part (drop i row))
   pub leads : (j : ℕ) → j < 1024 → Leads row j (behind (drop i row)) (get_or heads j 0)
-  pub later : (j : ℕ) → j < 1024 → i < length row → i < get_or heads j 0
-  pub above : (j : ℕ) → j < 1024 → i ≤ get_or heads j 0
 
 pub record Links (row : List ℤ) (i : ℕ) (links : List ℕ) : Type 0 where
   pub room : length row ≤ length links

@@ -1,28 +1,31 @@
 // An index of a row's clauses by a key of their variables: chains through the row, from each key's first clause on.
-ghost use Rattle.std.specs.Prelude.{◌≡◌, ◌+◌, ◌*◌, ◌%◌, ◌<◌, ◌≤◌, [], ◌∷◌, map, length, MatchOption};
-ghost use Rattle.tables.specs.Literal.{literal, var};
-ghost use Rattle.tables.specs.Clause.{clauses};
-ghost use Rattle.patterns.specs.Index.{Heads, Indexed, behind, first_part, key};
+ghost use Rattle.std.specs.Prelude.{◌≡◌, ◌+◌, ◌*◌, ◌%◌, ◌<◌, ◌≤◌, [], ◌∷◌, map, length};
+ghost use Rattle.tables.specs.Literal.{literal};
+ghost use Rattle.patterns.specs.Index.{Heads, Indexed, key};
 
 use tables::literal::{literal, var};
+use tables::sizes::MOST_ENTRIES;
 
 /// How many keys there are.
-const KEYS: usize = 1024;
+pub const KEYS: usize = 1024;
 
-/// The index of a row. The row's length stands for no place.
+/// A row with the index of its clauses. The row's length stands for no place.
 #[derive(Clone, Copy)]
 pub struct Index<'a> {
+    /// The row.
+    pub row: &'a [i32],
     /// For each key where its first clause starts.
-    pub heads: &'a [u16],
+    pub(crate) heads: &'a [u16],
     /// For each place where the next clause of the same key starts as that of the one which starts there.
-    pub links: &'a [u16],
+    pub(crate) links: &'a [u16],
+    pub ghost indexed: { Indexed row.now heads.now links.now },
 }
 
 /// The key of a clause that has one variable more before those of this key.
 fn key_with(key: usize, variable: usize) -> usize
-    requires { key < 1024 }
-    ensures is { result ≡ (31 * key + variable) % 1024 }
-    ensures within { result < 1024 }
+    requires { key < KEYS }
+    ensures is { result ≡ (31 * key + variable) % KEYS }
+    ensures within { result < KEYS }
 {
     (31 * key + variable % KEYS) % KEYS
 }
@@ -31,7 +34,7 @@ fn key_with(key: usize, variable: usize) -> usize
 #[tactic(auto, using(crate::proofs::Chains::key_start, crate::proofs::Chains::key_back), unfolding(crate::proofs::Chains::key_before))]
 pub fn key(clause: &[i32]) -> usize
     ensures is { result ≡ key (map literal clause.now) }
-    ensures within { result < 1024 }
+    ensures within { result < KEYS }
 {
     let mut key = 0;
     for &entry in clause.iter().rev() {
@@ -44,7 +47,7 @@ pub fn key(clause: &[i32]) -> usize
 #[tactic(auto, unfolding(crate::specs::Index::key))]
 pub fn key_of_two(x: usize, y: usize) -> usize
     ensures is { result ≡ key (x ∷ y ∷ []) }
-    ensures within { result < 1024 }
+    ensures within { result < KEYS }
 {
     key_with(key_with(0, var(y)), var(x))
 }
@@ -52,11 +55,11 @@ pub fn key_of_two(x: usize, y: usize) -> usize
 /// The key at a place, from that behind it: a zero ends the clause that starts behind it.
 fn read_back(row: &[i32], place: usize, key: usize, heads: &mut [u16]) -> usize
     requires inside { place < length row.now }
-    requires short { length row.now ≤ 16384 }
-    requires small { key < 1024 }
+    requires short { length row.now ≤ MOST_ENTRIES }
+    requires small { key < KEYS }
     requires heads { Heads row.now (place + 1) key heads.old }
     ensures heads { Heads row.now place result heads.new }
-    ensures within { result < 1024 }
+    ensures within { result < KEYS }
 {
     if row[place] == 0 {
         heads[key] = (place + 1) as u16;
@@ -66,10 +69,10 @@ fn read_back(row: &[i32], place: usize, key: usize, heads: &mut [u16]) -> usize
     }
 }
 
-/// Builds the index of the row.
-pub fn build(row: &[i32], heads: &mut [u16], links: &mut [u16])
-    requires short { length row.now ≤ 16384 }
-    requires keys { length heads.old ≡ 1024 }
+/// Writes the row's index.
+fn write(row: &[i32], heads: &mut [u16], links: &mut [u16])
+    requires short { length row.now ≤ MOST_ENTRIES }
+    requires keys { length heads.old ≡ KEYS }
     requires room { length row.now ≤ length links.old }
     ensures { Indexed row.now heads.new links.new }
 {
@@ -83,14 +86,15 @@ pub fn build(row: &[i32], heads: &mut [u16], links: &mut [u16])
     heads[key] = 0;
 }
 
-/// The row's first clause, without its ending zero.
-pub fn first_clause(row: &[i32]) -> Option<&[i32]>
-    ensures { MatchOption result (clauses row.now ≡ []) (λ c. (map literal c.now ≡ first_part row.now) × (clauses row.now ≡ first_part row.now ∷ clauses (behind row.now))) }
-{
-    for (place, &entry) in row.iter().enumerate() {
-        if entry == 0 {
-            return Some(&row[..place]);
-        }
+impl<'a> Index<'a> {
+    /// The row's index, written into the lent rows of places.
+    pub fn build(row: &'a [i32], heads: &'a mut [u16], links: &'a mut [u16]) -> Index<'a>
+        requires short { length row.now ≤ MOST_ENTRIES }
+        requires keys { length heads.old ≡ KEYS }
+        requires room { length row.now ≤ length links.old }
+        ensures { result.row.now ≡ row.now }
+    {
+        write(row, heads, links);
+        Index { row, heads, links }
     }
-    None
 }

@@ -2,6 +2,7 @@
 #![tactic(auto)]
 
 pub mod andform;
+pub mod chain;
 pub mod index;
 pub mod parity;
 pub mod partners;

@@ -1,47 +1,21 @@
 // Parity groups: whether a clause is its group's first in the row, and whether the row has all of the group.
-ghost use Rattle.std.specs.Prelude.{◌≡◌, ◌&&◌, ◌<◌, ◌≤◌, ℕ, true, map, length, take};
+ghost use Rattle.std.specs.Prelude.{◌≡◌, ◌&&◌, ◌<◌, ◌≤◌, ℕ, map, length};
 ghost use Rattle.std.specs.Bool.{OnTrue};
-ghost use Rattle.std.specs.List.{fold, list_all, list_any};
+ghost use Rattle.std.specs.List.{list_all};
 ghost use Rattle.ways.specs.Ways.{among, same};
-ghost use Rattle.tables.specs.Literal.{literal, var};
+ghost use Rattle.tables.specs.Literal.{literal};
 ghost use Rattle.tables.specs.Clause.{clauses};
 ghost use Rattle.rules.specs.Patterns.{anchors, first_of, found, group, parity};
-ghost use Rattle.patterns.specs.Index.{Indexed};
 ghost use Rattle.patterns.specs.Seen.{see, seen};
 
-use crate::index::{Index, first_clause, key};
-use crate::signs::{is_odd, signs};
-use tables::clause::is_same;
-use tables::literal::{literal, var};
-
-/// The variable of an entry.
-fn variable(entry: i32) -> usize
-    ensures { result ≡ var (literal entry) }
-{
-    var(literal(entry))
-}
-
-/// Whether two clauses are over the same variables, one by one.
-#[tactic(auto, using(crate::proofs::Same::vars_start, crate::proofs::Same::vars_on, crate::proofs::Same::vars_apart, crate::proofs::Same::vars_end, crate::proofs::Same::vars_longer))]
-fn has_variables_of(clause: &[i32], anchor: &[i32]) -> bool
-    ensures is { result ≡ same (map var (map literal clause.now)) (map var (map literal anchor.now)) }
-    ensures long { OnTrue result (length clause.now ≡ length anchor.now) }
-{
-    if clause.len() != anchor.len() {
-        return false;
-    }
-    for (place, &entry) in clause.iter().enumerate() {
-        if variable(entry) != variable(anchor[place]) {
-            return false;
-        }
-    }
-    true
-}
+use crate::index::{Index, key};
+use crate::signs::{MOST_GROUPED, is_odd, signs};
+use tables::clause::{has_variables_of, is_same};
 
 /// Whether the clause is of the anchor's group: over the same variables, with as many negative literals, odd or even.
-#[tactic(auto, using(crate::proofs::Whole::group_by_odd, crate::proofs::Whole::other_vars))]
+#[tactic(auto, using(rules::proofs::Groups::group_by_odd, rules::proofs::Groups::other_vars))]
 fn is_alike(clause: &[i32], anchor: &[i32]) -> bool
-    requires { length anchor.now ≤ 5 }
+    requires { length anchor.now ≤ MOST_GROUPED }
     ensures is { result ≡ among (map literal clause.now) (group (map literal anchor.now)) }
     ensures long { OnTrue result (length clause.now ≡ length anchor.now) }
 {
@@ -49,9 +23,9 @@ fn is_alike(clause: &[i32], anchor: &[i32]) -> bool
 }
 
 /// The patterns seen, with the clause's own if it is of the anchor's group.
-#[tactic(auto, unfolding(crate::specs::Seen::see), using(crate::proofs::Same::shifted))]
+#[tactic(auto, unfolding(crate::specs::Seen::see), using(std::proofs::lemmas::Nat::one_shl))]
 fn see(clause: &[i32], anchor: &[i32], seen: u32) -> u32
-    requires { length anchor.now ≤ 5 }
+    requires { length anchor.now ≤ MOST_GROUPED }
     ensures { result ≡ see (map literal anchor.now) seen (map literal clause.now) }
 {
     if is_alike(clause, anchor) {
@@ -61,90 +35,49 @@ fn see(clause: &[i32], anchor: &[i32], seen: u32) -> u32
     }
 }
 
-/// The patterns seen, with that of the row's first clause.
-fn see_first(row: &[i32], anchor: &[i32], seen: u32) -> u32
-    requires { length anchor.now ≤ 5 }
-    ensures { result ≡ fold (see (map literal anchor.now)) seen (take 1 (clauses row.now)) }
-{
-    match first_clause(row) {
-        Some(clause) => see(clause, anchor, seen),
-        None => seen,
-    }
-}
-
 /// The sign patterns of the anchor's group that the row has: a walk along the chain of the anchor's key.
-fn patterns_seen(row: &[i32], index: Index, anchor: &[i32]) -> u32
-    requires few { length anchor.now ≤ 5 }
-    requires indexed { Indexed row.now index.heads.now index.links.now }
-    ensures { result ≡ seen (clauses row.now) (map literal anchor.now) }
+#[tactic(auto, using(crate::proofs::Keyed::fold_keyed))]
+fn patterns_seen(index: &Index, anchor: &[i32]) -> u32
+    requires few { length anchor.now ≤ MOST_GROUPED }
+    ensures { result ≡ seen (clauses index.now.row.now) (map literal anchor.now) }
 {
     let mut seen = 0;
-    let mut at = index.heads[key(anchor)] as usize;
-    while at < row.len() {
-        seen = see_first(row.split_at(at).1, anchor, seen);
-        at = index.links[at] as usize;
+    for clause in index.chain(key(anchor)) {
+        seen = see(clause, anchor, seen);
     }
     seen
 }
 
 /// Whether the row has every clause of the anchor's group.
 #[tactic(auto, using(crate::proofs::Whole::whole_row))]
-fn is_whole(row: &[i32], index: Index, anchor: &[i32]) -> bool
+fn is_whole(index: &Index, anchor: &[i32]) -> bool
     requires some { 0 < length anchor.now }
-    requires few { length anchor.now ≤ 5 }
-    requires indexed { Indexed row.now index.heads.now index.links.now }
-    ensures { result ≡ list_all (λ d. among d (clauses row.now)) (group (map literal anchor.now)) }
+    requires few { length anchor.now ≤ MOST_GROUPED }
+    ensures { result ≡ list_all (λ d. among d (clauses index.now.row.now)) (group (map literal anchor.now)) }
 {
-    patterns_seen(row, index, anchor).count_ones() == 1 << (anchor.len() - 1)
-}
-
-/// Whether the row's first clause is of the anchor's group.
-fn begins_alike(row: &[i32], anchor: &[i32]) -> bool
-    requires { length anchor.now ≤ 5 }
-    ensures { result ≡ list_any (λ d. among d (group (map literal anchor.now))) (take 1 (clauses row.now)) }
-{
-    match first_clause(row) {
-        Some(clause) => is_alike(clause, anchor),
-        None => false,
-    }
-}
-
-/// Whether the row's first clause, which is of the anchor's group, is the anchor.
-#[tactic(auto, unfolding(rules::specs::Patterns::first_of))]
-fn begins_same(row: &[i32], anchor: &[i32]) -> bool
-    requires { list_any (λ d. among d (group (map literal anchor.now))) (take 1 (clauses row.now)) ≡ true }
-    ensures { result ≡ same (first_of (group (map literal anchor.now)) (take 1 (clauses row.now))) (map literal anchor.now) }
-{
-    match first_clause(row) {
-        Some(clause) => is_same(clause, anchor),
-        None => anchor.is_empty(),
-    }
+    patterns_seen(index, anchor).count_ones() == 1 << (anchor.len() - 1)
 }
 
 /// Whether the anchor is the first clause of its group in the row: a walk along the chain of its key.
-fn is_first(row: &[i32], index: Index, anchor: &[i32]) -> bool
+#[tactic(auto, using(crate::proofs::Keyed::first_keyed, crate::proofs::Whole::first_of_none), unfolding(rules::specs::Patterns::first_of))]
+fn is_first(index: &Index, anchor: &[i32]) -> bool
     requires some { 0 < length anchor.now }
-    requires few { length anchor.now ≤ 5 }
-    requires indexed { Indexed row.now index.heads.now index.links.now }
-    ensures { result ≡ same (first_of (group (map literal anchor.now)) (clauses row.now)) (map literal anchor.now) }
+    requires few { length anchor.now ≤ MOST_GROUPED }
+    ensures { result ≡ same (first_of (group (map literal anchor.now)) (clauses index.now.row.now)) (map literal anchor.now) }
 {
-    let mut at = index.heads[key(anchor)] as usize;
-    while at < row.len() {
-        let rest = row.split_at(at).1;
-        if begins_alike(rest, anchor) {
-            return begins_same(rest, anchor);
+    for clause in index.chain(key(anchor)) {
+        if is_alike(clause, anchor) {
+            return is_same(clause, anchor);
         }
-        at = index.links[at] as usize;
     }
     false
 }
 
 /// Whether the anchor is its parity group's first clause and the group is whole.
 #[tactic(auto, unfolding(rules::specs::Patterns::anchors, rules::specs::Patterns::found, rules::specs::Patterns::parity))]
-pub fn parity_found(row: &[i32], index: Index, anchor: &[i32]) -> bool
+pub fn parity_found(index: &Index, anchor: &[i32]) -> bool
     requires some { 0 < length anchor.now }
-    requires indexed { Indexed row.now index.heads.now index.links.now }
-    ensures { (o : ℕ) → result ≡ (anchors (clauses row.now) (map literal anchor.now) && found (clauses row.now) (parity (map literal anchor.now) o)) }
+    ensures { (o : ℕ) → result ≡ (anchors (clauses index.now.row.now) (map literal anchor.now) && found (clauses index.now.row.now) (parity (map literal anchor.now) o)) }
 {
-    anchor.len() < 6 && is_first(row, index, anchor) && is_whole(row, index, anchor)
+    anchor.len() <= MOST_GROUPED && is_first(index, anchor) && is_whole(index, anchor)
 }

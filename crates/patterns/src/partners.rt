@@ -1,59 +1,28 @@
 // The clauses of two literals that an and-form has beside its anchor: the opposite of the output with the opposite of each
 // other literal.
-ghost use Rattle.std.specs.Prelude.{◌≡◌, ◌≢◌, ◌<◌, ◌∷◌, [], map, take};
-ghost use Rattle.ways.specs.Ways.{among, same};
-ghost use Rattle.tables.specs.Literal.{literal};
+ghost use Rattle.std.specs.Prelude.{◌≡◌, ◌≢◌, ◌∷◌, []};
+ghost use Rattle.ways.specs.Ways.{among};
 ghost use Rattle.tables.specs.Clause.{clauses};
-ghost use Rattle.patterns.specs.Index.{Indexed};
 ghost use Rattle.rules.specs.Patterns.{side};
 
-use crate::index::{Index, first_clause, key_of_two};
-use tables::literal::{literal, opposite};
-
-/// Whether the clause is that of two literals.
-fn is_clause_of(clause: &[i32], x: usize, y: usize) -> bool
-    ensures { result ≡ same (x ∷ y ∷ []) (map literal clause.now) }
-{
-    clause.len() == 2 && x == literal(clause[0]) && y == literal(clause[1])
-}
-
-/// Whether the row's first clause is that of two literals.
-fn begins_with(row: &[i32], x: usize, y: usize) -> bool
-    ensures { result ≡ among (x ∷ y ∷ []) (take 1 (clauses row.now)) }
-{
-    match first_clause(row) {
-        Some(clause) => is_clause_of(clause, x, y),
-        None => false,
-    }
-}
+use crate::index::{Index, key_of_two};
+use rules::sides::side;
+use tables::clause::is_clause_of;
 
 /// Whether the row has the clause of two literals: a walk along the chain of its key.
-fn has_clause(row: &[i32], index: Index, x: usize, y: usize) -> bool
-    requires { Indexed row.now index.heads.now index.links.now }
-    ensures { result ≡ among (x ∷ y ∷ []) (clauses row.now) }
+fn has_clause(index: &Index, x: usize, y: usize) -> bool
+    ensures { result ≡ among (x ∷ y ∷ []) (clauses index.now.row.now) }
 {
-    let mut at = index.heads[key_of_two(x, y)] as usize;
-    while at < row.len() {
-        if begins_with(row.split_at(at).1, x, y) {
-            return true;
-        }
-        at = index.links[at] as usize;
-    }
-    false
+    index
+        .chain(key_of_two(x, y))
+        .any(|clause| is_clause_of(clause, x, y))
 }
 
 /// Whether the row has the clause of the opposites of two literals.
-#[tactic(auto, using(crate::proofs::Sides::side_rises, crate::proofs::Sides::side_falls))]
-pub fn has_side(row: &[i32], index: Index, output: usize, other: usize) -> bool
-    requires differ { output ≢ other }
-    requires indexed { Indexed row.now index.heads.now index.links.now }
-    ensures { result ≡ among (side output other) (clauses row.now) }
+pub fn has_side(index: &Index, output: usize, other: usize) -> bool
+    requires { output ≢ other }
+    ensures { result ≡ among (side output other) (clauses index.now.row.now) }
 {
-    let x = opposite(output);
-    let y = opposite(other);
-    if x < y {
-        has_clause(row, index, x, y)
-    } else {
-        has_clause(row, index, y, x)
-    }
+    let (x, y) = side(output, other);
+    has_clause(index, x, y)
 }

@@ -4,8 +4,9 @@
 
 ghost use Rattle.std.specs.Prelude.{◌≤◌, length, IfOk};
 
+use intake::fill;
 use std::io;
-use std::io::{Read, Write};
+use std::io::Write;
 use tables::numbers::Refusal;
 use tables::sizes::{MOST_BYTES, MOST_ENTRIES};
 use texts::reading::read;
@@ -13,21 +14,6 @@ use texts::writing::write;
 
 /// The most bytes of a written table: a header line, and an entry in at most six bytes.
 const MOST_WRITTEN: usize = 131_072;
-
-/// Fills the buffer from the reader as far as both go; how many bytes were read.
-fn fill(input: &mut impl Read, buffer: &mut [u8]) -> io::Result<usize>
-    ensures { IfOk result (λ filled. filled ≤ length buffer.new) }
-{
-    let mut filled = 0;
-    while filled < buffer.len() {
-        let more = input.read(&mut buffer[filled..])?;
-        if more == 0 {
-            break;
-        }
-        filled += more;
-    }
-    Ok(filled)
-}
 
 /// The text in written form, at the front of `out`; how many bytes it has.
 fn rewrite(text: &[u8], out: &mut [u8]) -> Result<usize, Refusal>

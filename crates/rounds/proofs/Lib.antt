@@ -1,21 +1,6 @@
--- Laws of the rounds' code.
-pub mod ForceSteps
-pub mod ForceRows
-pub mod ForcePasses
-pub mod Empties
-pub mod StandSteps
-pub mod PairSteps
-pub mod SubstituteSteps
+-- Lemmas of a round's steps put together, and of the loop.
 pub mod PinSteps
-pub mod Insert
-pub mod Parts
-pub mod Tidying
-pub mod Open
-pub mod Endings
-pub mod Voids
-pub mod CleanSteps
-pub mod Cleaned
 pub mod RoundSteps
 pub mod Whole
+pub mod Outcomes
 pub mod SettleSteps
-pub mod ChainSteps

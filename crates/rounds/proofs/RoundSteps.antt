@@ -1,76 +1,31 @@
 -- A round's steps put together: what each of them asks of the row, and what they come to.
-use Rattle.std.proofs.Common.{◌≡◌, ◌∙◌, refl, sym, ap, subst, ℕ, zero, suc, ◌+◌, ◌-◌, ◌*◌, ◌<◌, ◌≤◌, Bool, true, false, cond, eqb, List, [], ◌∷◌, ◌++◌, map, length, get_or, take, length-take-le, get_or-take, arith, ℤ, pos, eqb-true}
+use Rattle.std.proofs.Common.{◌≡◌, ◌∙◌, refl, sym, ap, subst, ℕ, ◌+◌, ◌-◌, ◌*◌, ◌<◌, ◌≤◌, Bool, true, false, cond, eqb, List, map, length, get_or, arith, ℤ}
 use mathlib.Core.List.Memᴰ
-use mathlib.Core.List.{Memᴰ}
 use Rattle.std.specs.List.{fold, list_any, All}
 use Rattle.std.proofs.lemmas.List.{get_or_default}
 use Rattle.tables.specs.Literal.{literal, var}
 use Rattle.tables.specs.Clause.{clauses}
 use Rattle.tables.proofs.Clauses.{All as EachLiteral}
-use Rattle.tables.proofs.Literals.{literal_zero}
 use Rattle.rules.specs.Forced.{forced, contradicts}
 use Rattle.rules.specs.Clean.{clean}
 use Rattle.rules.specs.Pairs.{pairs, stands, replace, starting, leaders, torn, join}
 use Rattle.rules.specs.Rounds.{Round, stuck, ended, goes_on, paired, cleaned, round, pinned}
 use Rattle.settling.proofs.Round.{Good, ds, s, st', ds_live, next_good}
-use Rattle.rounds.specs.Ended.{left_open, Ended}
-use Rattle.rounds.specs.Substitute.{Live}
-use Rattle.rounds.specs.Pairs.{found}
-use Rattle.rounds.specs.declared.pairs.Pairs.{Pairs}
-use Rattle.rounds.specs.declared.pairs.Pairs.TheVariants.{NoPair, Torn, Joined}
-use Rattle.rounds.proofs.SubstituteSteps.{LastEnds, live_entries, inside_entries}
+use Rattle.cleaning.specs.Ended.{Ended}
+use Rattle.pairing.specs.Substitute.{Live}
+use Rattle.pairing.specs.Pairs.{found}
+use Rattle.pairing.specs.declared.pairs.Pairs.{Pairs}
+use Rattle.pairing.specs.declared.pairs.Pairs.TheVariants.{NoPair, Torn, Joined}
+use Rattle.cleaning.proofs.LastEntries.{LastEnds, each_entry, inside_entries, ended_last}
 use Rattle.rounds.proofs.PinSteps.{clean_pinned}
 
--- A row whose last clause is ended ends with a zero, and the other way round.
-last_of : (b : List ℕ) (row : List ℤ) → left_open b row ≡ [] → LastEnds row
-unfolding left_open
-last_of b [] e = refl
-last_of b (z ∷ []) e = go (eqb (literal z) 0) refl e
-  where
-    go : (t : Bool) → eqb (literal z) 0 ≡ t → ◌≡◌ {A = List ℕ} (elim t [ true ↦ [] | false ↦ b ++ (literal z ∷ []) ]) [] → z ≡ pos 0
-    go true q e = literal_zero z (eqb-true (literal z) 0 q)
-    go false q e = absurd (Memᴰ.not-nil (subst (Memᴰ (literal z)) e (Memᴰ.append_right b (Memᴰ.head refl))))
-last_of b (z ∷ y ∷ ys) e = go (eqb (literal z) 0) e (last_of [] (y ∷ ys)) (last_of (b ++ (literal z ∷ [])) (y ∷ ys))
-  where
-    less : suc (length ys) - 1 ≡ length ys
-    less = omega arith
+-- What is known of the replaced clauses, that they speak of variables from 1 on, as a fact on the entries.
+live_clauses : (s : List ℕ) (cs : List (List ℕ)) → EachLiteral (λ l. 1 ≤ var l) (map (map (replace s)) cs) → EachLiteral (λ l. 2 ≤ replace s l) cs
+live_clauses s cs h c i l j =
+    let one = h (map (replace s) c) (Memᴰ.map (map (replace s)) i) (replace s l) (Memᴰ.map (replace s) j) in omega arith
 
-    more : suc (suc (length ys)) - 1 ≡ suc (length ys)
-    more = omega arith
-
-    on : LastEnds (y ∷ ys) → LastEnds (z ∷ y ∷ ys)
-    on h = rw more (rw less at h)
-
-    go : (t : Bool) → ◌≡◌ {A = List ℕ} (elim t [ true ↦ left_open [] (y ∷ ys) | false ↦ left_open (b ++ (literal z ∷ [])) (y ∷ ys) ]) []
-        → (left_open [] (y ∷ ys) ≡ [] → LastEnds (y ∷ ys)) → (left_open (b ++ (literal z ∷ [])) (y ∷ ys) ≡ [] → LastEnds (y ∷ ys)) → LastEnds (z ∷ y ∷ ys)
-    go true e f g = on (f e)
-    go false e f g = on (g e)
-
-pub ended_last : (row : List ℤ) → Ended row → LastEnds row
-ended_last row e = last_of [] row e
-
-pub last_ended : (b : List ℕ) (row : List ℤ) → 0 < length row → LastEnds row → left_open b row ≡ []
-unfolding left_open
-last_ended b [] h e = absurd (no h)
-  where
-    no : 0 < 0 → ⊥
-    no h = omega arith
-last_ended b (z ∷ []) h e = let q : literal z ≡ 0 = ap literal e in rw (left_open, q) refl
-last_ended b (z ∷ y ∷ ys) h e = go (eqb (literal z) 0) (last_ended [] (y ∷ ys) (omega arith) tail) (last_ended (b ++ (literal z ∷ [])) (y ∷ ys) (omega arith) tail)
-  where
-    less : suc (length ys) - 1 ≡ length ys
-    less = omega arith
-
-    more : suc (suc (length ys)) - 1 ≡ suc (length ys)
-    more = omega arith
-
-    tail : LastEnds (y ∷ ys)
-    tail = rw less (rw more at e)
-
-    go : (t : Bool) → left_open [] (y ∷ ys) ≡ [] → left_open (b ++ (literal z ∷ [])) (y ∷ ys) ≡ []
-        → ◌≡◌ {A = List ℕ} (elim t [ true ↦ left_open [] (y ∷ ys) | false ↦ left_open (b ++ (literal z ∷ [])) (y ∷ ys) ]) []
-    go true f g = f
-    go false f g = g
+pub live_entries : (s : List ℕ) (row : List ℤ) → LastEnds row → EachLiteral (λ l. 1 ≤ var l) (map (map (replace s)) (clauses row)) → All (Live s) row
+live_entries s row e h = each_entry (λ l. 2 ≤ replace s l) row e (live_clauses s (clauses row) h)
 
 module _ (n : ℕ) (st : List ℕ) (cs : List (List ℕ)) (good : Good n st cs) where
   -- Each variable stands for a literal of a variable up to n, or for a value.
@@ -133,15 +88,3 @@ module _ (n : ℕ) (st : List ℕ) (row pins : List ℤ) (good : Good n st (pinn
     leaders_are first stands k size first_is stands_is =
         let less : k - 1 ≡ n = omega arith in
         stands_is ∙ ap (λ f. fold join f (pairs out)) (first_is ∙ rw (less, marks_are) refl) ∙ ap (λ o. fold join (starting n (forced n cs)) (pairs o)) kept_are
-
--- A front that is ended stays so where its zeros stay.
-pub front_ended : (old new : List ℤ) (k : ℕ) → k ≤ length old → length new ≡ length old → Ended (take k old)
-    → ((i : ℕ) → get_or old i (pos 0) ≡ pos 0 → get_or new i (pos 0) ≡ pos 0) → Ended (take k new)
-unfolding left_open
-front_ended old new zero h e was_ended zeros = refl
-front_ended old new (suc k) h e was_ended zeros =
-    let a : length (take (suc k) old) ≡ suc k = length-take-le (suc k) old h in
-    let b : length (take (suc k) new) ≡ suc k = length-take-le (suc k) new (omega (arith, e)) in
-    let less : suc k - 1 ≡ k = omega arith in
-    let was : get_or old k (pos 0) ≡ pos 0 = sym (get_or-take (suc k) old k (pos 0) (omega arith)) ∙ rw (a, less) at (ended_last (take (suc k) old) was_ended) in
-    last_ended [] (take (suc k) new) (omega (arith, b)) (rw (b, less) (get_or-take (suc k) new k (pos 0) (omega arith) ∙ zeros k was))

@@ -1,9 +1,9 @@
 -- The loop over the rounds: how it begins, and what a turn does to what is left.
-use Rattle.std.proofs.Common.{◌≡◌, ◌∙◌, refl, sym, ap, ℕ, suc, ◌+◌, ◌-◌, ◌<◌, ◌≤◌, true, not, List, [], length, take, arith, ℤ}
+use Rattle.std.proofs.Common.{◌≡◌, ◌∙◌, refl, sym, ap, ℕ, suc, ◌+◌, ◌-◌, ◌<◌, ◌≤◌, true, not, List, [], ◌++◌, length, take, arith, ℤ}
 use Rattle.std.specs.Prelude.{Result, Ok}
 use Rattle.tables.specs.declared.numbers.Refusal.{Refusal}
 use Rattle.std.specs.List.{list_all}
-use Rattle.std.proofs.lemmas.List.{append-nil}
+use Rattle.std.proofs.lemmas.List.{append-nil, take-append-le}
 use Rattle.tables.specs.Clause.{clauses}
 use Rattle.tables.specs.Check.{checked}
 use Rattle.tables.proofs.Checked.{accepted_good}
@@ -14,11 +14,27 @@ use Rattle.settling.proofs.Inside.{pinned_inside}
 use Rattle.settling.proofs.Round.{Good}
 use Rattle.settling.proofs.Models.{first_good}
 use Rattle.settling.proofs.Bound.{Leaves, round_leaves}
-use Rattle.rounds.specs.Ended.{Ended}
-use Rattle.rounds.specs.Rounds.{Turns, Settles}
+use Rattle.cleaning.specs.Ended.{left_open, Ended}
+use Rattle.rounds.specs.Rounds.{Holds, Turns, kept_of, Settles}
 use Rattle.rounds.specs.declared.settle.Settled.{Settled}
 use Rattle.rounds.specs.declared.round.Turn.{Turn}
 use Rattle.rounds.specs.declared.round.Turn.TheVariants.{Stuck, Over, On}
+
+-- What a turn leaves in the front of a row that it was lent, stands in the front of the whole row.
+module _ (all : List ℕ) (front rest : List ℤ) where
+  holds_behind : (k : ℕ) (cs : List (List ℕ)) → k ≤ length front → Holds front k cs → Holds (front ++ rest) k cs
+  holds_behind k cs l h =
+      let e : take k (front ++ rest) ≡ take k front = take-append-le k front rest l in
+      record { are = ap clauses e ∙ h.are; ended = ap (left_open []) e ∙ h.ended }
+
+  pub turns_behind : (o : Round) (turn : Turn) → kept_of turn ≤ length front → Turns o turn all front → Turns o turn all (front ++ rest)
+  turns_behind stuck turn l t = t
+  turns_behind (ended s c) Stuck l t = absurd t
+  turns_behind (ended s c) (Over k) l (a, h) = (a, holds_behind k c l h)
+  turns_behind (ended s c) (On k) l t = absurd t
+  turns_behind (goes_on s c) Stuck l t = absurd t
+  turns_behind (goes_on s c) (Over k) l t = absurd t
+  turns_behind (goes_on s c) (On k) l (a, h) = (a, holds_behind k c l h)
 
 -- At the beginning of round r: the state is good, and the rounds from here on come to what all rounds come to.
 pub record Going (n r : ℕ) (st : List ℕ) (cs : List (List ℕ)) (whole : Outcome) : Type 0 where

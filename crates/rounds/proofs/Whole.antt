@@ -5,7 +5,7 @@ use Rattle.std.proofs.lemmas.List.{nil_from_length}
 use Rattle.tables.specs.Literal.{literal}
 use Rattle.tables.specs.Check.{checked}
 use Rattle.tables.proofs.Checked.{Sound, ended, nought, lettered, accepted_good}
-use Rattle.rounds.specs.Ended.{left_open, Ended}
+use Rattle.cleaning.specs.Ended.{left_open, Ended}
 
 sound_ends : (n : ℕ) {l : ℕ} {zs : List ℤ} → Sound n l zs → (b : List ℕ) → length b ≡ l → left_open b zs ≡ []
 unfolding left_open

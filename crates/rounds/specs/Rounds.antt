@@ -4,7 +4,7 @@ use Rattle.tables.specs.Clause.{clauses}
 use Rattle.tables.specs.declared.numbers.Refusal.{Refusal}
 use Rattle.tables.specs.declared.numbers.Refusal.TheVariants.{Contradiction}
 use Rattle.rules.specs.Rounds.{Round, stuck, ended, goes_on, Outcome, impossible, settled}
-use Rattle.rounds.specs.Ended.{Ended}
+use Rattle.cleaning.specs.Ended.{Ended}
 use Rattle.rounds.specs.declared.round.Turn.{Turn}
 use Rattle.rounds.specs.declared.round.Turn.TheVariants.{Stuck, Over, On}
 use Rattle.rounds.specs.declared.settle.Settled.{Settled}

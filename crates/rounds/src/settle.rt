@@ -1,17 +1,19 @@
 // The rounds over a lent table with the pins behind it, until no pair is found.
-ghost use Rattle.std.specs.Prelude.{◌≡◌, ◌+◌, ◌*◌, ◌≤◌, [], true, not, Ok, length, take};
+ghost use Rattle.std.specs.Prelude.{◌≡◌, ◌+◌, ◌*◌, ◌≤◌, [], true, not, Ok, IfOk, length, take};
 ghost use Rattle.std.specs.List.{list_all};
+ghost use Rattle.tables.specs.Sizes.{most_variables, most_entries};
 ghost use Rattle.tables.specs.Check.{checked};
 ghost use Rattle.rules.specs.Pairs.{starting};
 ghost use Rattle.rules.specs.Rounds.{rounds, outcome, pinned};
 ghost use Rattle.rules.specs.Pins.{out_of_range};
 ghost use Rattle.settling.proofs.Round.{Good};
-ghost use Rattle.rounds.specs.Ended.{Ended};
+ghost use Rattle.cleaning.specs.Ended.{Ended};
 ghost use Rattle.rounds.specs.Rounds.{Settles};
 
 use crate::round::{Turn, round};
-use crate::stands::Stands;
+use pairing::stands::Stands;
 use tables::numbers::Refusal;
+use tables::sizes::{LITERAL_NUMBERS, VARIABLE_NUMBERS};
 
 /// What the rounds come to.
 #[derive(Clone, Copy, Debug, PartialEq, Eq)]
@@ -25,7 +27,7 @@ pub struct Settled {
 /// Lays a table into the front of a row, and lets each variable stand for itself.
 #[tactic(auto, using(crate::proofs::SettleSteps::starting_whole))]
 fn begin(n: usize, table: &[i32], row: &mut [i32], all: &mut [u16])
-    requires few { n ≤ 1024 }
+    requires few { n ≤ most_variables }
     requires room { length table.now ≤ length row.old }
     requires all { length all.old ≡ n + 1 }
     ensures row { take (length table.now) row.new ≡ table.now }
@@ -46,19 +48,21 @@ fn run(
     all: &mut [u16],
     stands: &mut [u16],
 ) -> Result<Settled, Refusal>
-    requires few { n ≤ 1024 }
+    requires few { n ≤ most_variables }
     requires within { entries ≤ length row.old }
-    requires short { entries ≤ 16384 }
+    requires short { entries ≤ most_entries }
     requires ended { Ended (take entries row.old) }
     requires marks { length marks.old ≡ 2 * n + 2 }
     requires stands { length stands.old ≡ n + 1 }
     requires good { Good n all.old (pinned (take entries row.old) pins.now) }
-    ensures { Settles (rounds n (n + 1) 1 all.old (pinned (take entries row.old) pins.now)) result all.new row.new }
+    ensures is { Settles (rounds n (n + 1) 1 all.old (pinned (take entries row.old) pins.now)) result all.new row.new }
+    ensures short { IfOk result (λ s. s.entries ≤ 16384) }
+    ensures within { IfOk result (λ s. s.entries ≤ length row.new) }
 {
     let mut entries = entries;
     let mut pins = pins;
     for number in 1..n + 2 {
-        match round(n, row, entries, pins, marks, all, stands) {
+        match round(n, &mut row[..entries], pins, marks, all, stands) {
             Turn::Stuck => return Err(Refusal::Contradiction(number)),
             Turn::Over(left) => {
                 return Ok(Settled {
@@ -89,13 +93,15 @@ pub fn settle(
 ) -> Result<Settled, Refusal>
     requires table { checked n table.now ≡ Ok tt }
     requires pins { list_all (λ x. not (out_of_range n x)) pins.now ≡ true }
-    requires room { 16384 ≤ length row.old }
+    requires room { most_entries ≤ length row.old }
     requires all { length all.old ≡ n + 1 }
-    ensures { Settles (outcome n (pinned table.now pins.now)) result all.new row.new }
+    ensures is { Settles (outcome n (pinned table.now pins.now)) result all.new row.new }
+    ensures short { IfOk result (λ s. s.entries ≤ 16384) }
+    ensures within { IfOk result (λ s. s.entries ≤ length row.new) }
 {
     begin(n, table, row, all);
-    let mut marks = [0u8; 2050];
-    let mut stands = [0u16; 1025];
+    let mut marks = [0u8; LITERAL_NUMBERS];
+    let mut stands = [0u16; VARIABLE_NUMBERS];
     let (marks, _) = marks.split_at_mut(2 * n + 2);
     let (stands, _) = stands.split_at_mut(n + 1);
     run(n, row, table.len(), pins, marks, all, stands)

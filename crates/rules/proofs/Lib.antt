@@ -1,1 +1,3 @@
 -- Laws of the rules that the code cites.
+pub mod Groups
+pub mod SideLaws

@@ -4,4 +4,5 @@
 pub mod book;
 pub mod built;
 pub mod marks;
+pub mod sides;
 pub mod standing;

@@ -54,7 +54,7 @@ module _ (u v : ℕ) (s : List ℕ) (lu : u < length s) (lv : v < length s) wher
       (λ l. map_same (give_way p q) (ap var (way_other p q (stands s u) (λ w. omega (arith, l, e, w))) ∙ sym e ∙ sym (way_hit p q (stands s v) (sym f))))
       (λ l. map_same (give_way q p) (way_hit q p (stands s u) (sym e) ∙ f ∙ sym (ap var (way_other q p (stands s v) (λ w. omega (arith, l, f, w))))))
 
-meet_size : (p q : ℕ) (s : List ℕ) → length (meet p q s) ≡ length s
+pub meet_size : (p q : ℕ) (s : List ℕ) → length (meet p q s) ≡ length s
 meet_size p q s = meet_cases p q s (λ r. length r ≡ length s) (λ e. refl) (λ l. length-map s (give_way p q)) (λ l. length-map s (give_way q p))
 
 -- the variables of a pair end in one class

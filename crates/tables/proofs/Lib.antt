@@ -5,4 +5,7 @@ pub mod Checked
 pub mod LookUps
 pub mod Few
 pub mod SameEntries
+pub mod SameVariables
 pub mod Verdicts
+pub mod EndedClauses
+pub mod Entries

@@ -1,10 +1,11 @@
 // Tests of one clause, lent as its own stretch of a table without the ending zero.
-ghost use Rattle.std.specs.Prelude.{◌≡◌, ◌≤◌, map, length};
+ghost use Rattle.std.specs.Prelude.{◌≡◌, ◌≤◌, ◌∷◌, [], eqb, map, length};
+ghost use Rattle.std.specs.Bool.{OnTrue};
 ghost use Rattle.ways.specs.Ways.{has, same};
-ghost use Rattle.tables.specs.Literal.{literal, valued};
+ghost use Rattle.tables.specs.Literal.{literal, valued, var};
 ghost use Rattle.tables.specs.Clause.{void, width, satisfies};
 
-use crate::literal::{literal, opposite};
+use crate::literal::{literal, opposite, var};
 use crate::values::is_true;
 
 /// Whether two clauses are the same, literal by literal.
@@ -12,6 +13,33 @@ pub fn is_same(clause: &[i32], other: &[i32]) -> bool
     ensures { result ≡ same (map literal clause.now) (map literal other.now) }
 {
     clause == other
+}
+
+/// Whether the clause is that of two literals, in this order.
+pub fn is_clause_of(clause: &[i32], x: usize, y: usize) -> bool
+    ensures { result ≡ same (map literal clause.now) (x ∷ y ∷ []) }
+{
+    clause.len() == 2 && literal(clause[0]) == x && literal(clause[1]) == y
+}
+
+/// Whether two entries are of one variable.
+fn is_of_variable(entry: i32, other: i32) -> bool
+    ensures { result ≡ eqb (var (literal entry)) (var (literal other)) }
+{
+    var(literal(entry)) == var(literal(other))
+}
+
+/// Whether two clauses are over the same variables, one by one.
+#[tactic(auto, using(crate::proofs::SameVariables::vars_longer))]
+pub fn has_variables_of(clause: &[i32], other: &[i32]) -> bool
+    ensures is { result ≡ same (map var (map literal clause.now)) (map var (map literal other.now)) }
+    ensures long { OnTrue result (length clause.now ≡ length other.now) }
+{
+    clause.len() == other.len()
+        && clause
+            .iter()
+            .zip(other)
+            .all(|(&entry, &other)| is_of_variable(entry, other))
 }
 
 /// Whether the clause has a literal.

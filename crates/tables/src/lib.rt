@@ -6,5 +6,6 @@ pub mod clause;
 pub mod literal;
 pub mod lookup;
 pub mod numbers;
+pub mod rows;
 pub mod sizes;
 pub mod values;

@@ -13,3 +13,7 @@ pub const MOST_BYTES: usize = 65_536;
 pub const MOST_PINS: usize = 64;
 /// Entries of a work buffer.
 pub const WORK_ROOM: usize = 16_384;
+/// Of the numbers of variables, with 0, which is none's.
+pub const VARIABLE_NUMBERS: usize = MOST_VARIABLES + 1;
+/// Of the numbers of literals, with 0 and 1, which are the values.
+pub const LITERAL_NUMBERS: usize = 2 * VARIABLE_NUMBERS;

@@ -3,6 +3,7 @@ pub mod PlaceSteps
 pub mod Placed
 pub mod Room
 pub mod TakeSteps
-pub mod GroupTaken
-pub mod FormTaken
-pub mod AnchorTurn
+pub mod Offers
+pub mod Walk
+pub mod Turn
+pub mod Rest

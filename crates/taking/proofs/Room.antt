@@ -2,17 +2,20 @@
 use Rattle.std.proofs.Common.{◌≡◌, ◌∙◌, refl, sym, ℕ, ◌+◌, ◌<◌, ◌≤◌, true, false, List, [], ◌∷◌, map, length, eqb, arith, ne_eqb, eq-eqb}
 use mathlib.Core.List.Memᴰ
 use mathlib.Core.List.{Memᴰ}
-use Rattle.std.specs.List.{list_any, IsDistinct, AllByRecursion}
+use denote.Struct.Props.{props}
+use Rattle.std.proofs.Math.Logic.{∥∥₁_elim}
+use Rattle.std.specs.List.{IsDistinct, AllByRecursion}
 use Rattle.std.proofs.lemmas.Bool.{not-true, and_parts}
 use Rattle.std.proofs.lemmas.List.{length-map}
 use Rattle.std.proofs.lemmas.Map.Keys.{IsDistinct-cons}
 use Rattle.std.proofs.lemmas.Map.Steps.{length-le_from_distinct_below}
 use Rattle.ways.proofs.Bools.{clash_of}
 use Rattle.ways.proofs.Members.{has-mem}
-use Rattle.ways.proofs.Rows.{none_of, list_any-mem}
+use Rattle.ways.proofs.Rows.{none_of}
 use Rattle.rules.specs.Patterns.{Gate}
 use Rattle.rules.specs.Taking.{is_output, allowed}
 use Rattle.circuits.proofs.Order.{Ordered, none, next}
+use Rattle.circuits.proofs.Taken.{Valid, Taken}
 
 abbrev outputs : List Gate → List ℕ
 outputs gs = map (λ (g : Gate). g.output) gs
@@ -46,13 +49,13 @@ module _ (n : ℕ) {gs : List Gate} (g : Gate) (order : Ordered gs) (inside : (h
   all_below q (Memᴰ.tail (Memᴰ.head e)) = omega arith
   all_below q (Memᴰ.tail (Memᴰ.tail i)) = let (h, j, e) = Memᴰ.of_map (λ (g : Gate). g.output) gs i in let k = (inside h j).1 in omega (arith, e)
 
-  pub allowed_room : length gs < n
+  allowed_room : length gs < n
   unfolding all
   allowed_room =
       let h : length all ≤ n + 1 = length-le_from_distinct_below all (n + 1) all_distinct (λ q e. all_below q (has-mem q all e)) in
       omega (arith, h, length-map gs (λ (g : Gate). g.output))
 
--- Where one of some candidates is allowed.
-pub any_room : (n : ℕ) {gs : List Gate} (order : Ordered gs) (inside : (h : Gate) → Memᴰ h gs → (1 ≤ h.output) × (h.output ≤ n)) (xs : List Gate)
-    → ((g : Gate) → Memᴰ g xs → (1 ≤ g.output) × (g.output ≤ n)) → list_any (allowed n gs) xs ≡ true → length gs < n
-any_room n {gs = gs} order inside xs low e = let (g, i, ok) = list_any-mem (allowed n gs) xs e in allowed_room n g order inside (low g i).0 (low g i).1 ok
+-- Where the gates are those taken from clauses.
+pub room : (n : ℕ) (cs : List (List ℕ)) (gs : List Gate) (g : Gate) → ∥ Taken n cs gs ∥₁ → ∥ Valid n cs g ∥₁ → allowed n gs g ≡ true → length gs < n
+room n cs gs g t v ok =
+    ∥∥₁_elim t (search props) (λ t. ∥∥₁_elim v (search props) (λ v. allowed_room n g t.order (λ h i. let w = t.valid h i in (w.low, w.high)) v.low v.high ok))

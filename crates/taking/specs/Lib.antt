@@ -1,3 +1,5 @@
 -- What the taking of gates has of its own.
 pub mod Placing
+pub mod Settled
+pub mod Anchors
 pub mod Offered

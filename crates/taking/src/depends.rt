@@ -1,15 +1,13 @@
-// What depends on a variable through the gates taken, and which gate is allowed. The gates stand in an order of evaluation, so
-// one walk finds all that depends: a byte for each variable, 1 where it does.
+// What depends on a variable through the gates taken. The gates stand in an order of evaluation, so one walk finds all that
+// depends: a byte for each variable, 1 where it does.
 ghost use Rattle.std.specs.Prelude.{◌≡◌, ◌-◌, ◌≤◌, map, length, set};
-ghost use Rattle.std.specs.Bool.{OnTrue};
 ghost use Rattle.std.specs.List.{All, fold, list_any};
 ghost use Rattle.tables.specs.Literal.{literal, var};
 ghost use Rattle.rules.specs.Forced.{marked};
 ghost use Rattle.rules.specs.Patterns.{others};
-ghost use Rattle.rules.specs.Taking.{touched, depend_step, dependents, allowed};
+ghost use Rattle.rules.specs.Taking.{touched, depend_step, dependents};
 ghost use Rattle.gates.specs.Sites.{Within, gate_of, gates_of};
 
-use gates::outputs::is_output;
 use gates::site::Site;
 use rules::marks::{is_marked, mark};
 use tables::literal::{literal, var};
@@ -48,7 +46,7 @@ fn depend_step(row: &[i32], site: Site, marks: &mut [u8])
 
 /// Marks what depends, through the gates, on the variables that are marked: in their order, a gate's output where one of its
 /// inputs is marked.
-pub fn depend(row: &[i32], sites: &[Site], marks: &mut [u8])
+fn depend(row: &[i32], sites: &[Site], marks: &mut [u8])
     requires { All (Within row.now) sites.now }
     ensures { marks.new ≡ fold depend_step marks.old (gates_of row.now sites.now) }
 {
@@ -67,22 +65,4 @@ pub fn dependents(row: &[i32], sites: &[Site], variable: usize, marks: &mut [u8]
     marks.fill(0);
     mark(marks, variable);
     depend(row, sites, marks);
-}
-
-/// Whether the gate is allowed: its output is no output yet, and no input depends on it through the gates. Where it is allowed
-/// the marks are what depends on its output, as its place among the gates needs them.
-#[tactic(auto, using(gates::proofs::SiteLaws::output_at), unfolding(rules::specs::Taking::allowed))]
-pub fn is_allowed(row: &[i32], sites: &[Site], site: Site, marks: &mut [u8]) -> bool
-    requires gate { Within row.now site }
-    requires taken { All (Within row.now) sites.now }
-    requires some { 1 ≤ length marks.old }
-    ensures is { result ≡ allowed (length marks.old - 1) (gates_of row.now sites.now) (gate_of row.now site) }
-    ensures walked { OnTrue result (marks.new ≡ dependents (length marks.old - 1) (gates_of row.now sites.now) (var site.output)) }
-{
-    let output = var(site.output);
-    if is_output(sites, output) {
-        return false;
-    }
-    dependents(row, sites, output, marks);
-    !is_touched(row, site, marks)
 }

@@ -2,7 +2,8 @@
 #![tactic(auto)]
 
 pub mod anchor;
+pub mod candidates;
 pub mod depends;
-pub mod forms;
 pub mod offer;
 pub mod place;
+pub mod take;

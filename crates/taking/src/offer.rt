@@ -1,115 +1,108 @@
-// A gate found in the table is taken if it is allowed.
-ghost use Rattle.std.specs.Prelude.{◌≡◌, ◌+◌, ◌-◌, ◌<◌, ◌≤◌, true, map, length, get_or, take, slice_range, pos};
-ghost use Rattle.std.specs.Bool.{OnTrue, OnFalse};
-ghost use Rattle.std.specs.List.{All, list_any};
-ghost use Rattle.tables.specs.Literal.{literal};
-ghost use Rattle.rules.specs.Patterns.{parity};
-ghost use Rattle.rules.specs.Taking.{allowed, take_first};
-ghost use Rattle.gates.specs.Sites.{Within, gate_of, gates_of};
-ghost use Rattle.taking.specs.Offered.{groups_from};
+// The gates that are being taken, and the offer of one more.
+ghost use Rattle.std.specs.Prelude.{◌≤◌, length, take};
+ghost use Rattle.std.specs.List.{All};
+ghost use Rattle.tables.specs.Clause.{clauses};
+ghost use Rattle.circuits.proofs.Taken;
+ghost use Rattle.gates.specs.Sites.{Within, gates_of};
+ghost use Rattle.taking.specs.Settled.{IsSettled};
 
-use crate::depends::is_allowed;
+use crate::depends::{dependents, is_touched};
 use crate::place::place;
+use gates::outputs::is_output;
 use gates::site::Site;
-use tables::literal::literal;
+use patterns::index::Index;
+use tables::literal::var;
+use tables::sizes::MOST_VARIABLES;
 
-/// Puts a gate in its place among the first `count` of the row if it is allowed; whether it is.
-pub fn offer(row: &[i32], sites: &mut [Site], count: usize, site: Site, marks: &mut [u8]) -> bool
-    requires gate { Within row.now site }
-    requires taken { All (Within row.now) (take count sites.old) }
-    requires some { 1 ≤ length marks.old }
-    requires few { count ≤ 1024 }
-    requires there { count ≤ length sites.old }
-    requires room { allowed (length marks.old - 1) (gates_of row.now (take count sites.old)) (gate_of row.now site) ≡ true → count < length sites.old }
-    ensures is { result ≡ allowed (length marks.old - 1) (gates_of row.now (take count sites.old)) (gate_of row.now site) }
-    ensures order { OnTrue result (gates_of row.now (take (count + 1) sites.new)
-        ≡ Rattle.rules.specs.Taking.place (length marks.old - 1) (gates_of row.now (take count sites.old)) (gate_of row.now site)) }
-    ensures within { OnTrue result (All (Within row.now) (take (count + 1) sites.new)) }
-    ensures still { OnFalse result (sites.new ≡ sites.old) }
-{
-    if !is_allowed(row, &sites[..count], site, marks) {
-        return false;
-    }
-    place(sites, count, site, marks);
-    true
+/// The gates taken so far from a settled table of the variables 1 to n, in an order of evaluation: the first `count` sites.
+#[derive(Drop)]
+pub struct Taking<'a, 'i> {
+    pub n: usize,
+    /// The settled table.
+    pub index: Index<'i>,
+    pub sites: &'a mut [Site],
+    pub count: usize,
+    pub ghost small: { n ≤ 1024 },
+    pub ghost room: { n ≤ length sites.now },
+    pub ghost few: { count ≤ n },
+    pub ghost settled: { ∥ IsSettled n (clauses index.row.now) ∥₁ },
+    pub ghost within: { All (Within index.row.now) (take count sites.now) },
+    pub ghost taken: { ∥ Taken.Taken n (clauses index.row.now) (gates_of index.row.now (take count sites.now)) ∥₁ },
 }
 
-/// The literal of a clause at a place.
-pub fn literal_at(clause: &[i32], place: usize) -> usize
-    requires { place < length clause.now }
-    ensures { result ≡ literal (get_or clause.now place (pos 0)) }
-{
-    literal(clause[place])
-}
+impl<'a, 'i> Taking<'a, 'i> {
+    ghost use Rattle.std.specs.Prelude.{◌≡◌, ◌+◌, ◌≤◌, [], ◌∷◌, length, take};
+    ghost use Rattle.std.specs.Bool.{OnTrue};
+    ghost use Rattle.tables.specs.Literal.{var};
+    ghost use Rattle.tables.specs.Clause.{clauses};
+    ghost use Rattle.rules.specs.Taking.{dependents};
+    ghost use Rattle.circuits.proofs.Taken.{Valid};
+    ghost use Rattle.gates.specs.Sites.{Within, gate_of};
+    ghost use Rattle.taking.specs.Settled.{IsSettled};
+    ghost use Rattle.taking.specs.Offered.{Offered, row, table, gates, may};
 
-/// Offers the parity group of the anchor at `start..end` with the variable of one of its literals as the output.
-#[tactic(auto, using(gates::proofs::SiteLaws::group_at))]
-fn offer_group(
-    row: &[i32],
-    sites: &mut [Site],
-    count: usize,
-    start: usize,
-    end: usize,
-    output: usize,
-    marks: &mut [u8],
-) -> bool
-    requires anchor { (start ≤ end) × (end ≤ length row.now) }
-    requires taken { All (Within row.now) (take count sites.old) }
-    requires some { 1 ≤ length marks.old }
-    requires few { count ≤ 1024 }
-    requires there { count ≤ length sites.old }
-    requires room { allowed (length marks.old - 1) (gates_of row.now (take count sites.old)) (parity (map literal (slice_range row.now start end)) output) ≡ true → count < length sites.old }
-    ensures is { result ≡ allowed (length marks.old - 1) (gates_of row.now (take count sites.old)) (parity (map literal (slice_range row.now start end)) output) }
-    ensures order { OnTrue result (gates_of row.now (take (count + 1) sites.new)
-        ≡ Rattle.rules.specs.Taking.place (length marks.old - 1) (gates_of row.now (take count sites.old)) (parity (map literal (slice_range row.now start end)) output)) }
-    ensures within { OnTrue result (All (Within row.now) (take (count + 1) sites.new)) }
-    ensures still { OnFalse result (sites.new ≡ sites.old) }
-{
-    let site = Site {
-        start,
-        end,
-        output,
-        parity: true,
-    };
-    offer(row, sites, count, site, marks)
-}
-
-/// Offers the parity group of the anchor at `start..end`, which is found, with each variable as the output, from the lowest up,
-/// until one is allowed; whether one is.
-#[tactic(auto, using(crate::proofs::GroupTaken::group_taken, crate::proofs::GroupTaken::group_any, crate::proofs::GroupTaken::group_passed, crate::proofs::GroupTaken::group_none))]
-pub fn offer_groups(
-    row: &[i32],
-    sites: &mut [Site],
-    count: usize,
-    start: usize,
-    end: usize,
-    marks: &mut [u8],
-) -> bool
-    requires anchor { (start ≤ end) × (end ≤ length row.now) }
-    requires taken { All (Within row.now) (take count sites.old) }
-    requires some { 1 ≤ length marks.old }
-    requires few { count ≤ 1024 }
-    requires there { count ≤ length sites.old }
-    requires room { list_any (allowed (length marks.old - 1) (gates_of row.now (take count sites.old))) (groups_from row.now start end 0) ≡ true → count < length sites.old }
-    ensures is { result ≡ list_any (allowed (length marks.old - 1) (gates_of row.now (take count sites.old))) (groups_from row.now start end 0) }
-    ensures order { OnTrue result (gates_of row.now (take (count + 1) sites.new)
-        ≡ take_first (allowed (length marks.old - 1)) (length marks.old - 1) (gates_of row.now (take count sites.old)) (groups_from row.now start end 0)) }
-    ensures within { OnTrue result (All (Within row.now) (take (count + 1) sites.new)) }
-    ensures still { OnFalse result (sites.new ≡ sites.old) }
-{
-    let anchor = &row[start..end];
-    for place in 0..anchor.len() {
-        if offer_group(
-            row,
+    /// No gate yet: the sites are room for as many as there are variables.
+    pub fn start(n: usize, index: Index<'i>, sites: &'a mut [Site]) -> Taking<'a, 'i>
+        requires small { n ≤ 1024 }
+        requires room { n ≤ length sites.old }
+        requires settled { IsSettled n (clauses index.row.now) }
+        ensures n { result.n ≡ n }
+        ensures row { row result ≡ index.entry.row.now }
+        ensures gates { gates result ≡ [] }
+    {
+        Taking {
+            n,
+            index,
             sites,
-            count,
-            start,
-            end,
-            literal_at(anchor, place),
-            marks,
-        ) {
-            return true;
+            count: 0,
         }
     }
-    false
+
+    /// The gates taken so far.
+    pub fn taken(&self) -> &[Site]
+        ensures { result.now ≡ take self.now.count self.now.sites.now }
+    {
+        &self.sites[..self.count]
+    }
+
+    /// Whether a gate is allowed: its output is no output yet, and no input depends on it through the gates taken. Where it is
+    /// allowed the marks are what depends on its output, as its place among the gates needs them.
+    #[tactic(auto, using(gates::proofs::SiteLaws::output_at), unfolding(rules::specs::Taking::allowed))]
+    fn is_allowed(&self, site: Site, marks: &mut [u8]) -> bool
+        requires within { Within (row self.now) site }
+        requires marks { length marks.old ≡ self.now.n + 1 }
+        ensures is { result ≡ may self.now (gates self.now) (gate_of (row self.now) site) }
+        ensures walked { OnTrue result (marks.new ≡ dependents self.now.n (gates self.now) (var site.output)) }
+    {
+        let output = var(site.output);
+        if is_output(self.taken(), output) {
+            return false;
+        }
+        dependents(self.index.row, self.taken(), output, marks);
+        !is_touched(self.index.row, site, marks)
+    }
+
+    /// Puts a gate in its place among those taken if it is allowed; whether it is.
+    pub fn offer(&mut self, site: Site) -> bool
+        requires within { Within (row self.old) site }
+        requires valid { ∥ Valid self.old.n (table self.old) (gate_of (row self.old) site) ∥₁ }
+        ensures { Offered self.old self.new result (gate_of (row self.old) site ∷ []) }
+    {
+        let mut marks = [0; MOST_VARIABLES + 1];
+        let (marks, _) = marks.split_at_mut(self.n + 1);
+        if !self.is_allowed(site, marks) {
+            return false;
+        }
+        place(self.sites, self.count, site, marks);
+        self.count += 1;
+        true
+    }
+
+    /// The gates taken, in the end.
+    pub fn finish(self) -> &'a [Site]
+        ensures { result.now ≡ take self.entry.count self.entry.sites.now }
+    {
+        let Taking { sites, count, .. } = self;
+        &sites[..count]
+    }
 }

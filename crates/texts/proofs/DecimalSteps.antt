@@ -1,6 +1,6 @@
 -- Decimal digits, one after another from the last.
-use Rattle.std.proofs.Common.{◌≡◌, refl, sym, ap, ◌∙◌, ℕ, zero, suc, ◌+◌, ◌-◌, ◌/◌, ◌%◌, ◌^◌, ◌<◌, ◌≤◌, Bool, true, false, List, [], ◌∷◌, ◌++◌, length, drop, set, ltb, arith, append_assoc}
-use borrow.Author.Tests.{lt-ltb, le-ltb, ltb-false}
+use Rattle.std.proofs.Common.{◌≡◌, refl, sym, ap, ◌∙◌, ℕ, zero, suc, ◌+◌, ◌-◌, ◌/◌, ◌%◌, ◌^◌, ◌<◌, ◌≤◌, Bool, true, false, List, [], ◌∷◌, ◌++◌, length, drop, set, ltb, arith, append_assoc, length-append}
+use borrow.Author.Tests.{lt-ltb, le-ltb, ltb-true, ltb-false}
 use Rattle.std.proofs.lemmas.List.{drop-set}
 use Rattle.std.proofs.lemmas.Grind.{pow_more}
 use Rattle.texts.specs.Decimal.{digits_of, decimal}
@@ -47,3 +47,16 @@ pub two_left : (v i : ℕ) → 10 ≤ v → v < 10 ^ i → 2 ≤ i
 two_left v zero h k = absurd (omega arith)
 two_left v (suc zero) h k = absurd (omega arith)
 two_left v (suc (suc i)) h k = omega arith
+
+-- So many digits has a number below that power of ten.
+pub decimal_few : (k v : ℕ) → v < 10 ^ suc k → length (decimal v) ≤ suc k
+unfolding decimal
+decimal_few zero v h = let e : decimal v ≡ (48 + v) ∷ [] = one_digit v v (omega arith) in rw e (omega arith)
+decimal_few (suc k) v h = go (ltb v 10) refl (decimal_few k (v / 10))
+  where
+    go : (b : Bool) → ltb v 10 ≡ b → (v / 10 < 10 ^ suc k → length (decimal (v / 10)) ≤ suc k) → length (decimal v) ≤ suc (suc k)
+    go true q more = let e : decimal v ≡ (48 + v) ∷ [] = one_digit v v (ltb-true v 10 q) in rw e (omega arith)
+    go false q more =
+        let one : suc (suc k) - 1 ≡ suc k = omega arith in
+        let fits : v / 10 < 10 ^ suc k = rw one at (tenth_fits v (suc (suc k)) (omega arith) h) in
+        rw (step v (ltb-false v 10 q)) (omega (arith, length-append (decimal (v / 10)) ((48 + v % 10) ∷ []), more fits))

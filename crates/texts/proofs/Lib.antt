@@ -9,6 +9,8 @@ pub mod TokenSteps
 pub mod NumeralSteps
 pub mod HeaderSteps
 pub mod BodySteps
+pub mod Room
 pub mod RowSteps
+pub mod LaySteps
 pub mod DecimalSteps
 pub mod WriteSteps

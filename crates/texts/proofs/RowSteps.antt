@@ -1,5 +1,5 @@
 -- A row laid over a buffer.
-use Rattle.std.proofs.Common.{◌≡◌, refl, ap, ◌∙◌, ℕ, suc, ◌+◌, ◌≤◌, List, [], ◌∷◌, ◌++◌, length, set, arith, add-one, add-zero, length-set}
+use Rattle.std.proofs.Common.{◌≡◌, refl, ap, ◌∙◌, ℕ, suc, ◌+◌, ◌≤◌, List, [], ◌∷◌, length, set, arith, add-one, length-set}
 use Rattle.std.proofs.lemmas.List.{set_past, length-map}
 use lib.IntN.{ℤ}
 use Rattle.texts.specs.Tokens.{Token}
@@ -24,17 +24,6 @@ module _ {X : Type 0} where
   overlay_front [] old h = refl
   overlay_front (x ∷ xs) [] h = absurd (omega arith)
   overlay_front (x ∷ xs) (y ∷ old) h = overlay_behind x old xs 0 ∙ ap (λ r. x ∷ r) (overlay_front xs old (omega arith))
-
-  -- One row behind another.
-  pub overlay-append : (old : List X) (p : ℕ) (xs ys : List X) → overlay (overlay old p xs) (p + length xs) ys ≡ overlay old p (xs ++ ys)
-  unfolding overlay
-  overlay-append old p [] ys = rw add-zero refl
-  overlay-append old p (x ∷ xs) ys =
-      let e : p + suc (length xs) ≡ p + 1 + length xs = omega arith in rw e (overlay-append (set old p x) (p + 1) xs ys)
-
--- What is laid behind a row makes one row with it.
-pub laid_behind : (old mid : List ℕ) (p q : ℕ) (xs ys : List ℕ) → mid ≡ overlay old p xs → q ≡ p + length xs → overlay mid q ys ≡ overlay old p (xs ++ ys)
-laid_behind old mid p q xs ys e f = rw (e, f) (overlay-append old p xs ys)
 
 -- The entries of a text laid over a row that holds them.
 pub entries_front : (ts : List Token) (row : List ℤ) → length ts ≤ length row → overlay row 0 (entries ts) ≡ front (entries ts) row

@@ -1,25 +1,21 @@
 -- Written text, piece after piece.
-use Rattle.std.proofs.Common.{◌≡◌, refl, sym, ◌∙◌, ℕ, ◌+◌, ◌<◌, ◌≤◌, Bool, true, false, cond, List, [], ◌∷◌, ◌++◌, length, get_or, drop, arith, append_assoc, one-add, zero-add, Ok}
+use Rattle.std.proofs.Common.{◌≡◌, refl, sym, ℕ, zero, suc, ◌+◌, ◌*◌, ◌/◌, ◌%◌, ◌^◌, ◌<◌, ◌≤◌, Bool, true, false, cond, ltb, List, [], ◌∷◌, ◌++◌, length, get_or, drop, arith, append_assoc, length-append, one-add, Ok}
 use lib.IntN.{ℤ, pos}
 use lib.Dec.{eqb}
 use Rattle.std.specs.List.{count_by}
-use Rattle.std.proofs.lemmas.List.{length-append, drop_more}
+use Rattle.std.proofs.lemmas.List.{drop_more, drop_all}
+use Rattle.std.proofs.lemmas.List.Sums.{count_by-le-length}
 use Rattle.std.proofs.lemmas.List.Recursion.{is_count_by}
 use Rattle.std.specs.Prelude.{codes}
 use Rattle.tables.specs.Literal.{literal, var, neg}
 use Rattle.tables.specs.Clause.{clauses_from, clauses}
 use Rattle.tables.specs.Check.{checked}
-use Rattle.tables.proofs.Checked.{accepted_good}
+use Rattle.tables.proofs.Checked.{Sound, ended, nought, lettered, accepted_good}
 use Rattle.texts.specs.Writing.{first_line, parting, clause_lines, written}
 use Rattle.texts.specs.Pieces.{piece}
-use Rattle.texts.specs.Buffer.{overlay}
-use Rattle.texts.specs.Decimal.{decimal, signed}
-use Rattle.texts.proofs.RowSteps.{laid_behind}
-
--- A minus sign, and the digits behind it.
-pub minus_laid : (old mid : List ℕ) (p q l : ℕ) → neg l ≡ true → mid ≡ overlay old p (45 ∷ []) → q ≡ p + 1 → overlay mid q (decimal (var l)) ≡ overlay old p (signed l)
-unfolding signed
-minus_laid old mid p q l e f g = laid_behind old mid p q (45 ∷ []) (decimal (var l)) f g ∙ rw (signed, e) refl
+use Rattle.texts.specs.Laying.{Laid, lay}
+use Rattle.texts.specs.Decimal.{digits_of, decimal, signed}
+use Rattle.texts.proofs.LaySteps.{laid_none, laid_behind}
 
 -- How many clauses there are does not hang on the literals of the open one.
 any_open : (before after : List ℕ) (t : List ℤ) → length (clauses_from before t) ≡ length (clauses_from after t)
@@ -45,40 +41,69 @@ clauses_counted t = is_count_by (λ t. length (clauses_from [] t)) (λ z. eqb (l
     step_by : (z : ℤ) (zs : List ℤ) → length (clauses_from [] (z ∷ zs)) ≡ cond (eqb (literal z) 0) (1 + length (clauses_from [] zs)) (length (clauses_from [] zs))
     step_by z zs = go (eqb (literal z) 0) z zs
 
--- The header line in its four pieces.
-pub first_line_laid : (old o₁ o₂ o₃ : List ℕ) (p₁ p₂ p₃ v c : ℕ) → o₁ ≡ overlay old 0 (codes "p cnf ") → p₁ ≡ 6 → o₂ ≡ overlay o₁ p₁ (decimal v) → p₂ ≡ p₁ + length (decimal v)
-    → o₃ ≡ overlay o₂ p₂ (codes " ") → p₃ ≡ p₂ + 1 → overlay o₃ p₃ (decimal c) ≡ overlay old 0 (first_line v c)
-unfolding first_line
-first_line_laid old o₁ o₂ o₃ p₁ p₂ p₃ v c e₁ f₁ e₂ f₂ e₃ f₃ =
-    laid_behind o₂ o₃ p₂ p₃ (codes " ") (decimal c) e₃ f₃
-    ∙ laid_behind o₁ o₂ p₁ p₂ (decimal v) (codes " " ++ decimal c) e₂ f₂
-    ∙ laid_behind old o₁ 0 p₁ (codes "p cnf ") (decimal v ++ (codes " " ++ decimal c)) e₁ (f₁ ∙ refl)
-
 -- One entry's piece more.
 piece_in : (e : ℤ) (es : List ℤ) → clause_lines (e ∷ es) ≡ piece e ++ clause_lines es
 unfolding clause_lines
 piece_in e es = sym (append_assoc (signed (literal e)) (parting (literal e) ∷ []) (clause_lines es))
 
-pub line_laid : (old mid : List ℕ) (p q i : ℕ) (t : List ℤ) (e : ℤ) → i < length t → e ≡ get_or t i (pos 0) → mid ≡ overlay old p (piece e) → q ≡ p + length (piece e)
-    → overlay old p (clause_lines (drop i t)) ≡ overlay mid q (clause_lines (drop (i + 1) t))
-line_laid old mid p q i t e h r f g =
-    let es = drop (i + 1) t in
-    rw (drop_more t i (pos 0) h, ← r, piece_in e es) (sym (laid_behind old mid p q (piece e) (clause_lines es) f g))
+pub line_laid : (s : Laid) (i : ℕ) (t : List ℤ) → i < length t → lay s (clause_lines (drop i t)) ≡ lay (lay s (piece (get_or t i (pos 0)))) (clause_lines (drop (i + 1) t))
+line_laid s i t h =
+    let e = get_or t i (pos 0) in
+    rw (drop_more t i (pos 0) h, piece_in e (drop (i + 1) t)) (sym (laid_behind s (piece e) (clause_lines (drop (i + 1) t))))
 
-pub line_long : (p q i : ℕ) (t : List ℤ) (e : ℤ) → i < length t → e ≡ get_or t i (pos 0) → q ≡ p + length (piece e)
-    → p + length (clause_lines (drop i t)) ≡ q + length (clause_lines (drop (i + 1) t))
-line_long p q i t e h r g =
-    let es = drop (i + 1) t in
-    rw (drop_more t i (pos 0) h, ← r, piece_in e es) (omega (arith, length-append (piece e) (clause_lines es)))
+pub lines_laid : (s : Laid) (i : ℕ) (t : List ℤ) → length t ≤ i → lay s (clause_lines (drop i t)) ≡ s
+unfolding clause_lines
+lines_laid s i t h = rw (drop_all i t h) (laid_none s)
 
--- The header line, its LF, and the clause lines.
-pub written_laid : (old o₁ o₂ : List ℕ) (p q n : ℕ) (t : List ℤ) → o₁ ≡ overlay old 0 (first_line n (length (clauses t))) → p ≡ length (first_line n (length (clauses t)))
-    → o₂ ≡ overlay o₁ p (codes "\n") → q ≡ p + 1 → overlay o₂ q (clause_lines t) ≡ overlay old 0 (written n t)
-unfolding written
-written_laid old o₁ o₂ p q n t e f g h =
-    laid_behind o₁ o₂ p q (codes "\n") (clause_lines t) g h
-    ∙ laid_behind old o₁ 0 p (first_line n (length (clauses t))) (10 ∷ clause_lines t) e (f ∙ sym (zero-add _))
+-- A written text is short enough to be counted.
+digits_short : (f v : ℕ) → length (digits_of f v) ≤ f + 1
+unfolding digits_of
+digits_short zero v = omega arith
+digits_short (suc f) v = go (ltb v 10) (digits_short f (v / 10))
+  where
+    go : (b : Bool) → length (digits_of f (v / 10)) ≤ f + 1 → length (elim b as (λ _. List ℕ) [ true ↦ (48 + v) ∷ [] | false ↦ digits_of f (v / 10) ++ ((48 + v % 10) ∷ []) ]) ≤ suc f + 1
+    go true h = omega arith
+    go false h = omega (arith, length-append (digits_of f (v / 10)) ((48 + v % 10) ∷ []))
 
--- A table that the check accepts is within the sizes.
-pub accepted_sizes : (n : ℕ) (t : List ℤ) → checked n t ≡ Ok tt → (n ≤ 1024) × (length t ≤ 16384)
-accepted_sizes n t e = let g = accepted_good n t e in (g.few, g.short)
+pub decimal_short : (v : ℕ) → length (decimal v) ≤ v + 1
+unfolding decimal
+decimal_short v = digits_short v v
+
+pub signed_short : (l : ℕ) → length (signed l) ≤ var l + 2
+unfolding signed
+signed_short l = go (neg l) (decimal_short (var l))
+  where
+    go : (b : Bool) → length (decimal (var l)) ≤ var l + 1 → length (elim b as (λ _. List ℕ) [ true ↦ 45 ∷ decimal (var l) | false ↦ decimal (var l) ]) ≤ var l + 2
+    go true h = omega arith
+    go false h = omega arith
+
+lines_short : (n l : ℕ) (t : List ℤ) → n ≤ 1024 → Sound n l t → length (clause_lines t) ≤ 1027 * length t
+unfolding clause_lines
+lines_short n l t few ended = omega arith
+lines_short n l (z ∷ zs) few (nought e s) =
+    let h = signed_short (literal z) in
+    omega (arith, length-append (signed (literal z)) (parting (literal z) ∷ clause_lines zs), lines_short n 0 zs few s)
+lines_short n l (z ∷ zs) few (lettered e f g s) =
+    let h = signed_short (literal z) in
+    omega (arith, length-append (signed (literal z)) (parting (literal z) ∷ clause_lines zs), lines_short n (l + 1) zs few s)
+
+pub accepted_short : (n : ℕ) (t : List ℤ) → checked n t ≡ Ok tt → (n ≤ 1024) × (length t ≤ 16384) × (length (written n t) < 2 ^ 64)
+unfolding written first_line
+accepted_short n t e =
+    let g = accepted_good n t e in
+    let c = length (clauses t) in
+    let few : c ≤ length t = rw clauses_counted (count_by-le-length (λ z. eqb (literal z) 0) t) in (
+      g.few,
+      g.short,
+      omega (
+        arith,
+        g.few,
+        g.short,
+        decimal_short n,
+        decimal_short c,
+        lines_short n 0 t g.few g.sound,
+        length-append (first_line n c) (10 ∷ clause_lines t),
+        length-append (codes "p cnf ") (decimal n ++ (codes " " ++ decimal c)),
+        length-append (decimal n) (codes " " ++ decimal c),
+      ),
+    )

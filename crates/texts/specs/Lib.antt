@@ -8,6 +8,7 @@ pub mod Header
 pub mod Body
 pub mod Tally
 pub mod Buffer
+pub mod Laying
 pub mod Reading
 pub mod Decimal
 pub mod Writing

@@ -2,15 +2,14 @@
 ghost use Rattle.std.specs.Prelude.{◌≡◌, ◌<◌, ◌^◌, drop};
 ghost use Rattle.texts.specs.Decimal.{decimal};
 
-/// The most digits that are written: a literal's variable has no more.
-pub const MOST_DIGITS: usize = 10;
+/// The most digits that are written: no number of 64 bits has more.
+pub const MOST_DIGITS: usize = 20;
 
 /// The decimal digits of a number, at the end of a row: the row, and the place of the first digit.
 #[tactic(auto, using(crate::proofs::DecimalSteps::decimal_one, crate::proofs::DecimalSteps::decimal_more, crate::proofs::DecimalSteps::tenth_fits, crate::proofs::DecimalSteps::two_left))]
 pub fn decimal(number: usize) -> ([u8; MOST_DIGITS], usize)
-    requires { number < 10 ^ 10 }
     ensures is { drop result.1 result.0 ≡ decimal number }
-    ensures within { result.1 < 10 }
+    ensures within { result.1 < 20 }
 {
     let mut digits = [b'0'; MOST_DIGITS];
     let mut first = MOST_DIGITS;

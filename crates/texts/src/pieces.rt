@@ -1,66 +1,60 @@
 // The pieces of written text, laid over a buffer one behind another. What passes the buffer's end is lost, but counted: so a
 // text laid over an empty buffer tells the room that it needs.
-ghost use Rattle.std.specs.Prelude.{◌≡◌, ◌+◌, ◌<◌, ◌≤◌, ◌^◌, length};
-ghost use Rattle.texts.specs.Buffer.{overlay};
+ghost use Rattle.std.specs.Prelude.{◌≡◌};
 ghost use Rattle.texts.specs.Decimal.{decimal, signed};
+ghost use Rattle.texts.specs.Laying.{laid, lay};
 ghost use Rattle.texts.specs.Pieces.{piece};
 
 use crate::decimal::decimal;
 use tables::literal::{is_negative, literal, var};
 
-/// Lays bytes over a buffer from a place on: the place behind them.
-#[tactic(auto, using(std::proofs::lemmas::List::set_past), unfolding(crate::specs::Buffer::overlay))]
-pub fn put(out: &mut [u8], at: usize, bytes: &[u8]) -> usize
-    requires { at + length bytes.now < 2 ^ 64 }
-    ensures is { result ≡ at + length bytes.now }
-    ensures laid { out.new ≡ overlay out.old at bytes.now }
-{
-    for (i, &byte) in bytes.iter().enumerate() {
-        if at + i < out.len() {
-            out[at + i] = byte;
+/// A buffer, and the place behind what was laid over it.
+#[derive(Drop)]
+pub struct Laying<'a> {
+    pub out: &'a mut [u8],
+    pub at: usize,
+}
+
+impl Laying<'_> {
+    /// Lays bytes behind the others.
+    #[tactic(auto, using(crate::proofs::LaySteps::byte_laid, crate::proofs::LaySteps::byte_lost, crate::proofs::LaySteps::all_laid))]
+    pub fn put(&mut self, bytes: &[u8])
+        ensures { laid self.new ≡ lay (laid self.old) bytes.now }
+    {
+        for &byte in bytes {
+            if self.at < self.out.len() {
+                self.out[self.at] = byte;
+            }
+            self.at = self.at.saturating_add(1);
         }
     }
-    at + bytes.len()
-}
 
-/// Lays a number over a buffer.
-pub fn put_number(out: &mut [u8], at: usize, number: usize) -> usize
-    requires small { number < 10 ^ 10 }
-    requires fits { at < 2 ^ 62 }
-    ensures is { result ≡ at + length (decimal number) }
-    ensures laid { out.new ≡ overlay out.old at (decimal number) }
-    ensures few { result ≤ at + 10 }
-{
-    let (digits, first) = decimal(number);
-    put(out, at, digits.split_at(first).1)
-}
-
-/// Lays a literal with its sign over a buffer.
-#[tactic(auto, using(crate::proofs::WriteSteps::minus_laid), unfolding(crate::specs::Decimal::signed))]
-fn put_signed(out: &mut [u8], at: usize, literal: usize) -> usize
-    requires small { literal < 10 ^ 10 }
-    requires fits { at < 2 ^ 61 }
-    ensures is { result ≡ at + length (signed literal) }
-    ensures laid { out.new ≡ overlay out.old at (signed literal) }
-    ensures few { result ≤ at + 11 }
-{
-    if is_negative(literal) {
-        let behind = put(out, at, b"-");
-        put_number(out, behind, var(literal))
-    } else {
-        put_number(out, at, var(literal))
+    /// Lays a number.
+    pub fn put_number(&mut self, number: usize)
+        ensures { laid self.new ≡ lay (laid self.old) (decimal number) }
+    {
+        let (digits, first) = decimal(number);
+        self.put(digits.split_at(first).1);
     }
-}
 
-/// Lays an entry of a table over a buffer, and what parts it from the next.
-#[tactic(auto, using(crate::proofs::RowSteps::laid_behind), unfolding(crate::specs::Writing::parting))]
-pub fn put_piece(out: &mut [u8], at: usize, entry: i32) -> usize
-    requires { at < 2 ^ 60 }
-    ensures is { result ≡ at + length (piece entry) }
-    ensures laid { out.new ≡ overlay out.old at (piece entry) }
-    ensures few { result ≤ at + 12 }
-{
-    let literal = literal(entry);
-    let behind = put_signed(out, at, literal);
-    put(out, behind, if literal == 0 { b"\n" } else { b" " })
+    /// Lays a literal with its sign.
+    #[tactic(auto, using(crate::proofs::LaySteps::laid_behind), unfolding(crate::specs::Decimal::signed))]
+    pub fn put_signed(&mut self, literal: usize)
+        ensures { laid self.new ≡ lay (laid self.old) (signed literal) }
+    {
+        if is_negative(literal) {
+            self.put(b"-");
+        }
+        self.put_number(var(literal));
+    }
+
+    /// Lays an entry of a table, and what parts it from the next.
+    #[tactic(auto, using(crate::proofs::LaySteps::laid_behind), unfolding(crate::specs::Writing::parting))]
+    pub fn put_piece(&mut self, entry: i32)
+        ensures { laid self.new ≡ lay (laid self.old) (piece entry) }
+    {
+        let literal = literal(entry);
+        self.put_signed(literal);
+        self.put(if literal == 0 { b"\n" } else { b" " });
+    }
 }

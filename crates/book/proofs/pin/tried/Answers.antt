@@ -5,9 +5,9 @@ use Rattle.std.proofs.lemmas.Result.{err_from_is_err_and}
 use Rattle.rules.specs.Rounds.{outcome, pinned}
 use Rattle.rules.specs.Pins.{in_force, with_pin}
 use Rattle.rules.specs.Calls.{contradiction}
-use Rattle.calls.proofs.Openings.{opened}
+use Rattle.calls.proofs.Openings.{opened, room_of}
 use Rattle.rounds.proofs.SettleSteps.{few_variables}
-use Rattle.book.proofs.PinSteps.{open_refuses, out_refuses, full_refuses, rounds_decide, pins_inside, room_of}
+use Rattle.book.proofs.PinSteps.{open_refuses, out_refuses, full_refuses, rounds_decide, pins_inside}
 use Rattle.book.proofs.pin.tried.Goals as goal
 
 pub returns-in_err-open : goal.returns-in_err-open

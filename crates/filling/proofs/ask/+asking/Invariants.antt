@@ -1,11 +1,11 @@
 -- Each question goes one level down; and the inputs from here on are still to be counted.
-use Rattle.std.proofs.Common.{◌≡◌, ◌+◌, ◌-◌, ◌*◌, ◌≤◌, drop}
+use Rattle.std.proofs.Common.{◌≡◌, ◌+◌, ◌-◌, ◌*◌, ◌^◌, ◌<◌, ◌≤◌, ℕ, length}
+use mathlib.Core.List.{Memᴰ}
 use Rattle.std.specs.List.{count_by}
 use Rattle.tables.specs.Literal.{var}
 use Rattle.gates.specs.Counting.{counts}
-use Rattle.gates.specs.Inputs.{inputs}
+use Rattle.gates.specs.Inputs.{inputs, to_come}
 use Rattle.filling.specs.Asking.{Remembers, ended, level}
-use Rattle.filling.proofs.AskSteps.{inputs_from}
 use Rattle.filling.proofs.ask.+asking.Given as goal
 
 abbrev pub decreases-gate_value : goal.decreases-gate_value
@@ -14,10 +14,13 @@ decreases-gate_value l = 2 * level l.circuit.now (var l.site.output) - 1
 abbrev pub decreases-variable_value : goal.decreases-variable_value
 decreases-variable_value l = 2 * level l.circuit.now l.variable
 
-abbrev pub invariant-gate_value-loop-entry : goal.invariant-gate_value-loop-entry
-invariant-gate_value-loop-entry l = record {
+abbrev pub invariant-gate_value-loop-input : goal.invariant-gate_value-loop-input
+invariant-gate_value-loop-input l = record {
   memo : Remembers l.circuit l.memo;
-  counted : count_by (counts l.kind (ended l.circuit)) (inputs l.circuit.row.now l.site)
-      ≡ l.trues + count_by (counts l.kind (ended l.circuit)) (inputs_from l.site (drop l.entry-index l.entry-items));
-  low : l.trues ≤ l.entry-index;
+  left : (x : ℕ) → Memᴰ x (to_come l.input-iterator) → Memᴰ x (inputs l.circuit.taken.row.now l.fn.site);
+  counted : count_by (counts l.kind (ended l.circuit)) (inputs l.circuit.taken.row.now l.fn.site)
+      ≡ l.trues + count_by (counts l.kind (ended l.circuit)) (to_come l.input-iterator);
+  number : length (inputs l.circuit.taken.row.now l.fn.site) ≡ l.inputs + length (to_come l.input-iterator);
+  few : length (inputs l.circuit.taken.row.now l.fn.site) < 2 ^ 64;
+  low : l.trues ≤ l.inputs;
 }

@@ -5,4 +5,4 @@ use Rattle.gates.specs.Sites.{gates_of}
 use Rattle.filling.proofs.levels.levels.Given as goal
 
 abbrev pub invariant-loop-site : goal.invariant-loop-site
-invariant-loop-site l = l.levels ≡ levels (length l.fn.levels - 1) (gates_of l.row (take l.site-index l.sites))
+invariant-loop-site l = l.levels ≡ levels (length l.fn.levels - 1) (gates_of l.taken.row.now (take l.site-index l.taken.sites.now))

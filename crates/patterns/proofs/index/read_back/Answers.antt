@@ -1,7 +1,8 @@
 -- One entry more is read back: a zero, or another.
 use Rattle.std.proofs.Common.{◌≡◌, ◌∙◌, ap, get_or, pos, arith, rules}
 use Rattle.tables.specs.Literal.{literal, var}
-use Rattle.patterns.proofs.Chains.{is_end, no_end, heads_end, heads_on}
+use Rattle.tables.proofs.Entries.{is_end, no_end}
+use Rattle.patterns.proofs.Chains.{heads_end, heads_on}
 use Rattle.patterns.proofs.index.read_back.Goals as goal
 
 pub offset_bounds-heads-key : goal.offset_bounds-heads-key

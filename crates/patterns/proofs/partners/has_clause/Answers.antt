@@ -1,42 +1,23 @@
--- The walk from the first clause of the key on, from link to link.
-use Rattle.std.proofs.Common.{◌≡◌, ◌∙◌, refl, sym, ap, ◌||◌, [], ◌∷◌, get_or, drop, true, false, arith}
-use Rattle.ways.specs.Ways.{among}
+-- The clause is looked for among those of its key.
+use Rattle.std.proofs.Common.{◌≡◌, ◌∙◌, ap, sym, map, ◌∷◌, [], rules, tests}
+use Rattle.std.specs.List.{list_any}
+use Rattle.std.proofs.Math.Path.{fun_ext}
+use Rattle.std.proofs.lemmas.Iterator.Consumers.{YieldsList-from_first}
+use Rattle.std.proofs.lemmas.Iterator.Search.{any_from_yields_List}
+use Rattle.ways.specs.Ways.{same}
+use Rattle.tables.specs.Literal.{literal}
 use Rattle.tables.specs.Clause.{clauses}
-use Rattle.patterns.specs.Index.{key}
-use Rattle.patterns.proofs.Scans.{on_first, on_next, among_first, among_next, none_left, link_later, one}
+use Rattle.tables.proofs.SameEntries.{same_sym}
+use Rattle.patterns.specs.Index.{key, with_key}
+use Rattle.patterns.specs.Chain.{to_come}
+use Rattle.patterns.proofs.Keyed.{among_keyed}
 use Rattle.patterns.proofs.partners.has_clause.Goals as goal
-
-pub loop-at-init : goal.loop-at-init
-loop-at-init c =
-    let k = c.key_of_two.ensures in
-    record {
-      left = among_first c.args.row.now c.args.index.heads.now c.args.index.links.now c.requires c.key_of_two.result k.within (c.args.x ∷ c.args.y ∷ []) (sym k.is);
-      on = on_first c.args.row.now c.args.index.heads.now c.args.index.links.now c.key_of_two.result _ c.requires k.within k.is;
-    }
-
-pub loop-at-preserved : goal.loop-at-preserved
-loop-at-preserved c =
-    let i = c.loop-at.invariant in
-    let d = c.args.x ∷ c.args.y ∷ [] in
-    let f : among d (one (drop c.loop-at.at c.args.row.now)) ≡ false = ap (λ zs. among d (one zs)) (sym c.split_at.ensures.back) ∙ sym c.begins_with.ensures ∙ c.if-begins_with.false in
-    record {
-      left = i.left ∙ among_next c.args.row.now c.args.index.heads.now c.args.index.links.now c.requires (key d) c.loop-at.at c.loop-at-test.true i.on d refl ∙ ap (λ b. b || among d (clauses (drop (get_or c.args.index.links.now c.loop-at.at 0) c.args.row.now))) f;
-      on = on_next c.args.row.now c.args.index.heads.now c.args.index.links.now c.requires (key d) c.loop-at.at c.loop-at-test.true i.on;
-    }
-
-pub loop-at-smaller : goal.loop-at-smaller
-loop-at-smaller c =
-    let i = c.loop-at.invariant in
-    let l = link_later c.args.row.now c.args.index.heads.now c.args.index.links.now c.requires (key (c.args.x ∷ c.args.y ∷ [])) c.loop-at.at c.loop-at-test.true i.on in omega arith
-
-pub returns-then-begins_with : goal.returns-then-begins_with
-returns-then-begins_with c =
-    let i = c.loop-at.invariant in
-    let d = c.args.x ∷ c.args.y ∷ [] in
-    let t : among d (one (drop c.loop-at.at c.args.row.now)) ≡ true = ap (λ zs. among d (one zs)) (sym c.split_at.ensures.back) ∙ sym c.begins_with.ensures ∙ c.if-begins_with.true in
-    sym (i.left ∙ among_next c.args.row.now c.args.index.heads.now c.args.index.links.now c.requires (key d) c.loop-at.at c.loop-at-test.true i.on d refl ∙ ap (λ b. b || among d (clauses (drop (get_or c.args.index.links.now c.loop-at.at 0) c.args.row.now))) t)
 
 pub returns : goal.returns
 returns c =
+    let cs = clauses c.args.index.now.row.now in
     let d = c.args.x ∷ c.args.y ∷ [] in
-    sym (c.loop-at.invariant.left ∙ ap (among d) (none_left c.args.row.now c.loop-at.at c.loop-at-test.false))
+    let come : to_come c.chain.result ≡ with_key (key d) cs = c.chain.ensures ∙ ap (λ k. with_key k cs) c.key_of_two.ensures.is in
+    any_from_yields_List (λ e. same e d) c.any.new.self _ c.any.result c.any.ensures.ran (YieldsList-from_first (λ clause. map literal clause.now) to_come _ come) (λ x b q k. search (rules, tests))
+    ∙ ap (λ t. list_any t (with_key (key d) cs)) (fun_ext (λ e. same_sym e d))
+    ∙ sym (among_keyed d cs)

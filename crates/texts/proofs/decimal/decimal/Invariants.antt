@@ -7,7 +7,7 @@ abbrev pub invariant-loop-rest : goal.invariant-loop-rest
 invariant-loop-rest l = record {
   digits : decimal l.number ≡ decimal l.rest ++ drop l.first l.digits;
   room : l.rest < 10 ^ l.first;
-  within : (1 ≤ l.first) × (l.first ≤ 10) × (length l.digits ≡ 10);
+  within : (1 ≤ l.first) × (l.first ≤ 20) × (length l.digits ≡ 20);
 }
 
 abbrev pub decreases-loop-rest : goal.decreases-loop-rest

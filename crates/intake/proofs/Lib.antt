@@ -1,0 +1,1 @@
+-- It has no lemmas of its own.

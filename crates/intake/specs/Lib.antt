@@ -1,0 +1,1 @@
+-- The programs' reading has no definitions of its own.

@@ -1,0 +1,4 @@
+-- What the code of the listing has of its own.
+pub mod Fields
+pub mod Apart
+pub mod Chains

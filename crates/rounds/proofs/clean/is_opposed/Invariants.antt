@@ -1,8 +1,0 @@
--- None was opposed; the others follow.
-use Rattle.std.proofs.Common.{◌≡◌, map, drop}
-use Rattle.tables.specs.Literal.{literal}
-use Rattle.rounds.specs.Neighbours.{opposed_from}
-use Rattle.rounds.proofs.clean.is_opposed.Given as goal
-
-abbrev pub invariant-loop-entry : goal.invariant-loop-entry
-invariant-loop-entry l = opposed_from 0 (map literal l.clause) ≡ opposed_from l.before (map literal (drop l.entry-index l.clause))

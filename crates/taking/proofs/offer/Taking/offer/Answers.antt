@@ -1,0 +1,39 @@
+-- The gate is not allowed; or it is, there is room for it, and it is in its place.
+use Rattle.std.proofs.Common.{◌∙◌, refl, sym, subst, take, arith}
+use Rattle.std.specs.List.{All}
+use Rattle.gates.specs.Sites.{Within, gate_of}
+use Rattle.taking.specs.Offered.{row, table, gates}
+use Rattle.taking.proofs.Placed.{all_placed}
+use Rattle.taking.proofs.Offers.{one_passed, one_taken, next_fits, still_taken}
+use Rattle.taking.proofs.offer.Taking.offer.Goals as goal
+
+pub returns-then-not-is_allowed : goal.returns-then-not-is_allowed
+returns-then-not-is_allowed c =
+    let t = c.args.self.now in
+    one_passed (gate_of (row t) c.args.site) t (sym c.is_allowed.ensures.is ∙ c.if-not-is_allowed.true)
+
+pub place-requires-clause-room : goal.place-requires-clause-room
+place-requires-clause-room c =
+    let t = c.args.self.now in
+    omega (arith, next_fits t (gate_of (row t) c.args.site) c.requires.valid (sym c.is_allowed.ensures.is ∙ c.if-not-is_allowed.false))
+
+pub invariant_of-self-clause-few : goal.invariant_of-self-clause-few
+invariant_of-self-clause-few c =
+    let t = c.args.self.now in
+    omega (arith, next_fits t (gate_of (row t) c.args.site) c.requires.valid (sym c.is_allowed.ensures.is ∙ c.if-not-is_allowed.false))
+
+pub invariant_of-self-clause-within : goal.invariant_of-self-clause-within
+invariant_of-self-clause-within c =
+    let t = c.args.self.now in
+    subst (All (Within (row t))) (sym c.place.ensures.parts) (all_placed (Within (row t)) c.is_allowed.new.marks (take t.count t.sites.now) c.args.site t.within c.requires.within)
+
+pub invariant_of-self-clause-taken : goal.invariant_of-self-clause-taken
+invariant_of-self-clause-taken c =
+    let t = c.args.self.now in
+    still_taken t.n (table t) (gates t) _ (gate_of (row t) c.args.site) t.taken c.requires.valid (sym c.is_allowed.ensures.is ∙ c.if-not-is_allowed.false)
+    (c.place.ensures.order (row t) t.n c.if-not-is_allowed.ensures.walked)
+
+pub returns : goal.returns
+returns c =
+    let t = c.args.self.now in
+    one_taken (gate_of (row t) c.args.site) t _ refl refl (sym c.is_allowed.ensures.is ∙ c.if-not-is_allowed.false) (c.place.ensures.order (row t) t.n c.if-not-is_allowed.ensures.walked)
