@@ -13,7 +13,7 @@ use Rattle.rules.specs.declared.book.Book.{Book}
 use Rattle.calls.proofs.Openings.{opening, opening_refuses, opening_passes}
 use Rattle.rounds.specs.Rounds.{Settles}
 use Rattle.rounds.specs.declared.settle.Settled.{Settled}
-use Rattle.book.proofs.PinSteps.{trial_accepted, trial_refused}
+use Rattle.rounds.proofs.Outcomes.{accepted_verdict, refused_verdict}
 use Rattle.boundary.specs.Settled.{settle_verdict, judged, Leaves}
 
 -- What the rounds answer, as the outcome says it.
@@ -21,8 +21,8 @@ module _ (n : ℕ) (t pins : List ℤ) (b : Book) (row : List ℤ) (stands : Lis
   pub rounds_judged : (answer : Result Settled Refusal) → Settles (outcome n (pinned t pins)) answer (take (n + 1) stands) row
       → judged answer ≡ contradiction (outcome_of n t b)
   unfolding outcome_of
-  rounds_judged (Ok s) h = trial_accepted (outcome n (pinned t (in_force b))) s (take (n + 1) stands) row (rw held at h)
-  rounds_judged (Err why) h = trial_refused (outcome n (pinned t (in_force b))) why (take (n + 1) stands) row (rw held at h)
+  rounds_judged (Ok s) h = accepted_verdict (outcome n (pinned t (in_force b))) s (take (n + 1) stands) row (rw held at h)
+  rounds_judged (Err why) h = refused_verdict (outcome n (pinned t (in_force b))) why (take (n + 1) stands) row (rw held at h)
 
   pub rounds_leave : (answer : Result Settled Refusal) → Settles (outcome n (pinned t pins)) answer (take (n + 1) stands) row
       → IfOk answer (λ s. Leaves n t b s.rounds s.entries row stands)

@@ -190,9 +190,6 @@ impl Builder for Second {
 /// The proved calls.
 pub struct Proved;
 
-/// The calls that the boundary does not export.
-const NOT_EXPORTED: [Call; 4] = [Call::Build, Call::Fill, Call::Ask, Call::Program];
-
 fn numbers(answer: Answer) -> Numbers {
     Numbers { number: answer.number, place: answer.place, first: answer.first, second: answer.second }
 }
@@ -215,7 +212,7 @@ impl Builder for Proved {
     }
 
     fn has(&self, call: Call) -> bool {
-        !NOT_EXPORTED.contains(&call)
+        call != Call::Program || proved::program_file().is_file()
     }
 
     fn check(&self, n: u32, table: &[i32]) -> Numbers {
@@ -235,16 +232,16 @@ impl Builder for Proved {
         &table[found.from..found.from + found.entries]
     }
 
-    fn build(&self, _: u32, _: &[i32], _: &mut [i32], _: &Book, _: &mut [u8]) -> Numbers {
-        unreachable!("a build is not exported")
+    fn build(&self, n: u32, table: &[i32], work: &mut [i32], book: &Book, bytes: &mut [u8]) -> Numbers {
+        numbers(proved::build(n as usize, table, &lent_book(book), work, bytes))
     }
 
-    fn fill(&self, _: u32, _: &[i32], _: &mut [i32], _: &Book, _: &[u8], _: &mut [u8]) -> Numbers {
-        unreachable!("a fill is not exported")
+    fn fill(&self, n: u32, table: &[i32], work: &mut [i32], book: &Book, values: &[u8], result: &mut [u8]) -> Numbers {
+        numbers(proved::fill(n as usize, table, &lent_book(book), work, values, result))
     }
 
-    fn ask(&self, _: u32, _: &[i32], _: &mut [i32], _: &Book, _: &[u8], _: u32) -> Numbers {
-        unreachable!("an ask is not exported")
+    fn ask(&self, n: u32, table: &[i32], work: &mut [i32], book: &Book, values: &[u8], variable: u32) -> Numbers {
+        numbers(proved::ask(n as usize, table, &lent_book(book), work, values, variable as usize))
     }
 
     fn settle(&self, n: u32, table: &[i32], row: &mut [i32], book: &Book, stands: &mut [u16]) -> Numbers {
@@ -259,7 +256,7 @@ impl Builder for Proved {
         over(book, proved::take_back)
     }
 
-    fn program(&self, _: &[u8]) -> Vec<u8> {
-        unreachable!("the build program is no call of the library")
+    fn program(&self, text: &[u8]) -> Vec<u8> {
+        proved::program(text).unwrap_or_default()
     }
 }

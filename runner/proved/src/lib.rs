@@ -4,6 +4,10 @@
 //! more of its caller than what the types of its arguments say. The declarations below are written by hand to fit
 //! crates/boundary/src, and nothing compares the two; this is the only place of the runner with `unsafe` in it.
 
+use std::io::{self, Write};
+use std::path::{Path, PathBuf};
+use std::process::{Command, Stdio};
+
 /// What a call returns: the rules' number with its place, and two values that an accepted call also returns.
 #[repr(C)]
 #[derive(Clone, Copy, Debug, PartialEq, Eq)]
@@ -56,6 +60,39 @@ unsafe extern "C" {
         entry: i32,
     ) -> Answer;
     fn choptimber_take_back(book: *mut LentBook) -> Answer;
+    fn choptimber_build(
+        n: usize,
+        table: *const i32,
+        entries: usize,
+        book: *const LentBook,
+        work: *mut i32,
+        room: usize,
+        out: *mut u8,
+        bytes: usize,
+    ) -> Answer;
+    fn choptimber_fill(
+        n: usize,
+        table: *const i32,
+        entries: usize,
+        book: *const LentBook,
+        work: *mut i32,
+        room: usize,
+        given: *const u8,
+        givens: usize,
+        values: *mut u8,
+        places: usize,
+    ) -> Answer;
+    fn choptimber_ask(
+        n: usize,
+        table: *const i32,
+        entries: usize,
+        book: *const LentBook,
+        work: *mut i32,
+        room: usize,
+        given: *const u8,
+        givens: usize,
+        variable: usize,
+    ) -> Answer;
 }
 
 // SAFETY, of every call below: the declaration fits the export, which requires nothing; each pointer goes with the length
@@ -98,4 +135,40 @@ pub fn pin(n: usize, table: &[i32], book: &mut LentBook, work: &mut [i32], entry
 /// Takes the last pin back.
 pub fn take_back(book: &mut LentBook) -> Answer {
     unsafe { choptimber_take_back(book) }
+}
+
+/// Builds, and prints the listing; also returns the rounds and the bytes.
+pub fn build(n: usize, table: &[i32], book: &LentBook, work: &mut [i32], out: &mut [u8]) -> Answer {
+    let (room, bytes) = (work.len(), out.len());
+    unsafe { choptimber_build(n, table.as_ptr(), table.len(), book, work.as_mut_ptr(), room, out.as_mut_ptr(), bytes) }
+}
+
+/// Fills in all variables from values for the free ones.
+pub fn fill(n: usize, table: &[i32], book: &LentBook, work: &mut [i32], given: &[u8], values: &mut [u8]) -> Answer {
+    let (entries, room, places) = (table.len(), work.len(), values.len());
+    let (table, work) = (table.as_ptr(), work.as_mut_ptr());
+    let (values, givens) = (values.as_mut_ptr(), given.len());
+    unsafe { choptimber_fill(n, table, entries, book, work, room, given.as_ptr(), givens, values, places) }
+}
+
+/// Asks for one variable; also returns its value.
+pub fn ask(n: usize, table: &[i32], book: &LentBook, work: &mut [i32], given: &[u8], variable: usize) -> Answer {
+    let (entries, room, givens) = (table.len(), work.len(), given.len());
+    let (table, work) = (table.as_ptr(), work.as_mut_ptr());
+    unsafe { choptimber_ask(n, table, entries, book, work, room, given.as_ptr(), givens, variable) }
+}
+
+/// Where the toolchain leaves the build program.
+pub fn program_file() -> PathBuf {
+    Path::new(env!("CARGO_MANIFEST_DIR")).join("../../crates/choptimber/out/choptimber")
+}
+
+/// The build program, run on a text: what it prints.
+pub fn program(text: &[u8]) -> io::Result<Vec<u8>> {
+    let mut running = Command::new(program_file()).stdin(Stdio::piped()).stdout(Stdio::piped()).spawn()?;
+    if let Some(mut input) = running.stdin.take() {
+        // It may stop reading behind the last byte that it can use.
+        let _ = input.write_all(text);
+    }
+    Ok(running.wait_with_output()?.stdout)
 }

@@ -1,9 +1,8 @@
 -- The rounds, test after test.
 use Rattle.std.proofs.Common.{◌∙◌, sym, length, arith}
 use Rattle.std.proofs.lemmas.Result.{err_from_is_err_and}
-use Rattle.calls.proofs.Openings.{opened}
+use Rattle.calls.proofs.Openings.{opened, room_of}
 use Rattle.rounds.proofs.SettleSteps.{few_variables}
-use Rattle.book.proofs.PinSteps.{room_of}
 use Rattle.boundary.proofs.SettleSteps.{open_refuses, short_refuses, rounds_decide, rounds_judged, rounds_leave}
 use Rattle.boundary.proofs.settled.settled.Goals as goal
 
