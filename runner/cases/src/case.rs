@@ -31,18 +31,21 @@ pub struct Case {
     pub moves: Vec<Move>,
     /// The values given to a fill or an ask.
     pub values: Vec<u8>,
+    /// Whether it is walked through with one call of each kind: it has so many rounds that one call may take seconds.
+    pub brief: bool,
 }
 
 impl Case {
     pub fn of_table(family: &str, seed: u64, n: u32, table: Vec<i32>) -> Case {
         let values = vec![0; n as usize];
         let start = Start::Table { n, table };
-        Case { family: family.to_string(), seed, start, book: Book::EMPTY, moves: Vec::new(), values }
+        Case { family: family.to_string(), seed, start, book: Book::EMPTY, moves: Vec::new(), values, brief: false }
     }
 
     pub fn of_text(family: &str, seed: u64, text: Vec<u8>) -> Case {
-        let start = Start::Text(text);
-        Case { family: family.to_string(), seed, start, book: Book::EMPTY, moves: Vec::new(), values: vec![0; 1_024] }
+        let mut case = Case::of_table(family, seed, 1_024, Vec::new());
+        case.start = Start::Text(text);
+        case
     }
 
     /// The entries or bytes that it starts from; the cutter wants fewer.

@@ -39,7 +39,7 @@ pub fn small_case(builder: &dyn Builder, words: &Words, case: &Case) -> Result<(
 
 /// All calls of a case against the words.
 pub fn against_words(builder: &dyn Builder, words: &Words, case: &Case) -> Result<(), String> {
-    compare(builder, words, case).map_err(|difference| difference.to_string())
+    compare(builder, words, case).map(|_| ()).map_err(|difference| difference.to_string())
 }
 
 /// A run of pins and take-backs from an empty book: "the pins in force are those that a plain stack of the accepted ones

@@ -4,9 +4,10 @@
 //! Rooms and tables follow from the builder's own answers, so that two builders take the same steps as long as they
 //! answer alike; the first step where they don't is the difference.
 
-use crate::builder::{Book, Builder};
+use crate::builder::{Book, Builder, Call};
 use crate::case::{Case, Move, Start};
 use crate::lent::{Given, Lending, Outcome};
+use std::collections::BTreeMap;
 use std::fmt;
 
 /// Lengths of work buffers that are lent: one short, one that just does, one longer.
@@ -26,32 +27,38 @@ impl fmt::Display for Difference {
     }
 }
 
+/// How many calls of each kind were compared.
+pub type Counts = BTreeMap<Call, usize>;
+
 /// Compares two builders on a case: every number, and every byte of all lent memory afterwards. A broken rule of lent
-/// memory is a difference as well.
-pub fn compare(a: &dyn Builder, b: &dyn Builder, case: &Case) -> Result<(), Difference> {
-    let (left, right) = (walk(a, case), walk(b, case));
+/// memory is a difference as well. Calls that one of the two has not are left out; what was compared is counted.
+pub fn compare(a: &dyn Builder, b: &dyn Builder, case: &Case) -> Result<Counts, Difference> {
+    let both = |call| a.has(call) && b.has(call);
+    let (left, right) = (walk(a, case, &both), walk(b, case, &both));
+    let mut counts = Counts::new();
     for (place, ours) in left.iter().enumerate() {
         let theirs = right.get(place);
         if theirs != Some(ours) || ours.broken.is_some() {
             return Err(Difference {
-                call: ours.call.clone(),
+                call: ours.words.clone(),
                 left: format!("{}: {}", a.name(), shown(Some(ours))),
                 right: format!("{}: {}", b.name(), shown(theirs)),
             });
         }
+        *counts.entry(ours.call).or_default() += 1;
     }
     if let Some(more) = right.get(left.len()) {
         let right = format!("{}: {}", b.name(), shown(Some(more)));
-        return Err(Difference { call: more.call.clone(), left: format!("{}: no such call", a.name()), right });
+        return Err(Difference { call: more.words.clone(), left: format!("{}: no such call", a.name()), right });
     }
-    Ok(())
+    Ok(counts)
 }
 
 /// The rules of lent memory along the walk of one builder.
 pub fn lawful(builder: &dyn Builder, case: &Case) -> Result<(), String> {
-    for outcome in walk(builder, case) {
+    for outcome in walk(builder, case, &|call| builder.has(call)) {
         if let Some(broken) = outcome.broken {
-            return Err(format!("{}: {broken}", outcome.call));
+            return Err(format!("{}: {broken}", outcome.words));
         }
     }
     Ok(())
@@ -65,7 +72,7 @@ fn shown(outcome: Option<&Outcome>) -> String {
     let numbers = outcome.numbers;
     let mut shown = format!(
         "{} at {}, also {} and {}, after {}",
-        numbers.number, numbers.place, numbers.first, numbers.second, outcome.call
+        numbers.number, numbers.place, numbers.first, numbers.second, outcome.words
     );
     if let Some(broken) = &outcome.broken {
         shown.push_str(&format!("; broken: {broken}"));
@@ -84,19 +91,20 @@ fn shown(outcome: Option<&Outcome>) -> String {
     shown
 }
 
-/// All calls for a case, in one order.
-pub fn walk(builder: &dyn Builder, case: &Case) -> Vec<Outcome> {
-    let mut lending = Lending::new(builder);
+/// All calls for a case that are taken, in one order.
+pub fn walk(builder: &dyn Builder, case: &Case, takes: &dyn Fn(Call) -> bool) -> Vec<Outcome> {
+    let mut lending = Lending::new(builder, takes);
     match &case.start {
         Start::Table { n, table } => table_calls(&mut lending, case, *n, table),
         Start::Text(text) => {
             lending.program(text);
             let read = lending.read(text, 16_400);
-            if read.is_accepted() {
+            let row = lending.outcomes.last().map(|outcome| outcome.entries.clone()).unwrap_or_default();
+            if read.is_accepted() && row.len() >= read.second {
                 for room in rooms(read.second) {
                     lending.read(text, room);
                 }
-                let table = lending.outcomes[1].entries[..read.second.min(16_400)].to_vec();
+                let table = row[..read.second].to_vec();
                 table_calls(&mut lending, case, read.first as u32, &table);
             } else {
                 lending.read(text, 0);
@@ -125,6 +133,10 @@ fn table_calls(lending: &mut Lending, case: &Case, n: u32, table: &[i32]) {
     for k in [0, 1, 2, 3, zeros / 2, zeros.wrapping_sub(1), zeros, zeros + 1, 4_096, usize::MAX] {
         lending.clause(n, table, k);
     }
+    if case.brief {
+        brief_round(lending, case, Given { n, table, book: &case.book, work: 16_400 });
+        return;
+    }
     full_round(lending, case, Given { n, table, book: &case.book, work: 16_384 });
     let mut book = case.book;
     for step in &case.moves {
@@ -152,10 +164,18 @@ fn short_round(lending: &mut Lending, case: &Case, given: Given) -> usize {
         built = lending.build(given, built.place);
     }
     let n = given.n as usize;
+    lending.settle(given, n.min(2_000) + 1);
     lending.fill(given, &case.values, n.min(2_000));
     let variable = 1 + (case.seed % u64::from(given.n.max(1))) as u32;
     lending.ask(given, &case.values, variable);
     built.second
+}
+
+/// One call of each kind.
+fn brief_round(lending: &mut Lending, case: &Case, given: Given) {
+    short_round(lending, case, given);
+    let book = lending.pin(given, given.n.min(1_024) as i32);
+    lending.take_back(&book);
 }
 
 /// All calls with this book, with all buffers.
@@ -170,6 +190,9 @@ fn full_round(lending: &mut Lending, case: &Case, given: Given) {
     let short = &case.values[..case.values.len().min(n.saturating_sub(1))];
     for work in WORKS {
         let given = Given { work, ..given };
+        for places in rooms(n + 1) {
+            lending.settle(given, places);
+        }
         for room in rooms(n) {
             lending.fill(given, &case.values, room);
         }

@@ -3,7 +3,7 @@
 //! builder.
 
 use crate::builder::{Book, Builder, Numbers};
-use crate::case::table_of;
+use crate::case::{table_of, Case, Move, Start};
 
 /// What an evening is given and what must come.
 pub enum Evening {
@@ -31,6 +31,27 @@ pub fn evenings() -> Vec<(&'static str, Evening)> {
     all.extend(unstarred());
     all.extend(readings());
     all
+}
+
+/// The evenings as cases, for all calls. Those that are runs of calls of their own are not among them.
+pub fn cases() -> Vec<Case> {
+    let case = |(name, evening): (&str, Evening)| match evening {
+        Build(n, table, pins, _) => {
+            let mut case = Case::of_table(name, 0, n, table);
+            case.moves = pins.into_iter().map(Move::Pin).collect();
+            case.moves.push(Move::TakeBack);
+            Some(case)
+        }
+        Refused(text, ..) | Read(text, ..) => Some(Case::of_text(name, 0, text)),
+        Check(n, table, ..) | Clause(n, table, ..) => {
+            let mut case = Case::of_table(name, 0, n.min(1_025), Vec::new());
+            case.start = Start::Table { n, table };
+            Some(case)
+        }
+        Program(text, _) => Some(Case::of_text(name, 0, text.as_bytes().to_vec())),
+        Other(_) => None,
+    };
+    evenings().into_iter().filter_map(case).collect()
 }
 
 /// Whether a builder answers an evening as the rules do.

@@ -1,16 +1,18 @@
-//! All cases in one row, for comparing two builders: the fixed ones, and those of each seed.
+//! All cases in one row, for comparing two builders: the fixed ones, the slowest ones, and those of each seed.
 
-use crate::case::{table_of, Case, Move, Start};
+use crate::case::{table_of, text_of, Case, Move, Start};
+use crate::evenings;
 use crate::random::Random;
 use crate::small::{desk, small};
 use crate::texts;
 use crate::yards;
 
-/// The cases that need no seed: yards and texts at the sizes and one past each, the worst yards, every cut and every
-/// spoiled byte of a small valid text.
+/// The cases that need no seed: the evenings, yards and texts at the sizes and one past each, the worst yards, every cut
+/// and every spoiled byte of a small valid text.
 pub fn fixed() -> Vec<Case> {
-    let mut cases: Vec<Case> = yards::yards(1_024).into_iter().map(|yard| yard.case).collect();
-    cases.push(yards::heavy_ladder(7, 1_024, 901, 2_296).case);
+    let mut cases: Vec<Case> = evenings::cases();
+    cases.extend(yards::yards(1_024).into_iter().map(|yard| yard.case).filter(|case| !is_slow(case)));
+    cases.push(brief(yards::ladder(2, 1_024, yards::Order::Shuffled).case));
     for (n, table, ..) in yards::sizes() {
         cases.push(Case::of_table("sizes", cases.len() as u64, n, table));
     }
@@ -22,6 +24,20 @@ pub fn fixed() -> Vec<Case> {
     let spoiled = (0..valid.len()).flat_map(|place| texts::spoiled(valid, place));
     cases.extend(texts::cuts(valid).chain(spoiled).map(|text| Case::of_text("a damaged byte", 0, text)));
     cases
+}
+
+/// The ladders over all variables of a full yard, each in about as many rounds as it has variables.
+pub fn slowest() -> Vec<Case> {
+    let yards = yards::yards(1_024).into_iter().chain([yards::heavy_ladder(7, 1_024, 901, 2_296)]);
+    yards.map(|yard| yard.case).filter(is_slow).map(brief).collect()
+}
+
+fn is_slow(case: &Case) -> bool {
+    case.family.contains("ladder") && case.size() > 2_000
+}
+
+fn brief(case: Case) -> Case {
+    Case { brief: true, ..case }
 }
 
 /// The cases of one seed, small ones first.
@@ -39,7 +55,13 @@ pub fn of_seed(seed: u64) -> Vec<Case> {
     }
     if seed.is_multiple_of(64) {
         cases.extend(yards::yards(24 + (seed / 64 % 16) as usize * 2).into_iter().map(|yard| yard.case));
-        cases.push(yards::planted(seed, 1_024, 4_096, 16_384).case);
+    }
+    if seed.is_multiple_of(256) {
+        let full = yards::planted(seed, 1_024, 4_096, 16_384).case;
+        if let Start::Table { n, table } = &full.start {
+            cases.push(texts::damaged_text(seed, text_of(*n, table).into_bytes()));
+        }
+        cases.push(full);
     }
     cases
 }

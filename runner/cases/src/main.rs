@@ -1,12 +1,21 @@
-//! The runner of cases: fixed ones, long runs from a seed, the files of a folder.
+//! The runner of cases: fixed ones, long runs from a seed, the files of a folder; the proved calls compared with the second
+//! program; the times of both.
 
-use cases::builder::Second;
-use cases::run::{file, seeds, test, Tally};
+use cases::builder::{Proved, Second};
+use cases::case::Case;
+use cases::families::slowest;
+use cases::run::{against, cases, file, seeds, test, told, Tally};
 use cases::time;
+use std::hint::black_box;
 use std::process::ExitCode;
 use std::{env, fs, io};
 
-const USAGE: &str = "usage: cases test | long SEED COUNT | files FOLDER | time FOLDER";
+const USAGE: &str = "usage: cases test | long SEED COUNT | files FOLDER
+  | compare | compare-long SEED COUNT | compare-files FOLDER
+  | time FOLDER [--instructions]";
+
+/// How many seeds the fixed comparison takes.
+const COMPARED: u64 = 1_024;
 
 fn main() -> ExitCode {
     let given: Vec<String> = env::args().skip(1).collect();
@@ -21,9 +30,35 @@ fn main() -> ExitCode {
             Ok(tally) => tally,
             Err(error) => return broken(folder, &error),
         },
-        ["time", folder] => match times(folder) {
-            Ok(()) => return ExitCode::SUCCESS,
+        ["compare"] => compared(cases(1, COMPARED)),
+        ["compare-long", seed, count] => match (seed.parse(), count.parse()) {
+            (Ok(seed), Ok(count)) => compared(cases(seed, count).chain(slowest())),
+            _ => return usage(),
+        },
+        ["compare-files", folder] => match texts_of(folder) {
+            Ok(texts) => compared(texts.into_iter().map(|(name, text)| Case::of_text(&name, 1, text))),
             Err(error) => return broken(folder, &error),
+        },
+        ["time", folder] => match texts_of(folder) {
+            Ok(texts) => {
+                time::tables(texts);
+                return ExitCode::SUCCESS;
+            }
+            Err(error) => return broken(folder, &error),
+        },
+        ["time", folder, "--instructions"] => match texts_of(folder) {
+            Ok(texts) => {
+                time::instructions(texts);
+                return ExitCode::SUCCESS;
+            }
+            Err(error) => return broken(folder, &error),
+        },
+        ["once", builder, call, file] => match fs::read(file) {
+            Ok(text) => {
+                black_box(time::once(builder, call, text));
+                return ExitCode::SUCCESS;
+            }
+            Err(error) => return broken(file, &error),
         },
         _ => return usage(),
     };
@@ -70,16 +105,9 @@ fn files(folder: &str) -> io::Result<Tally> {
     Ok(tally)
 }
 
-/// The times on each file and on the worst yards.
-fn times(folder: &str) -> io::Result<()> {
-    println!("{}", time::heading());
-    for (name, text) in texts_of(folder)? {
-        if let Some(line) = time::file(&name, &text) {
-            println!("{line}");
-        }
-    }
-    for line in time::worst().iter().filter_map(time::yard) {
-        println!("{line}");
-    }
-    Ok(())
+/// The proved calls compared with the second program.
+fn compared(cases: impl Iterator<Item = Case>) -> Tally {
+    let mut tally = against(&Proved, &Second, cases);
+    told(&mut tally, &Proved, &Second);
+    tally
 }

@@ -1,9 +1,9 @@
 //! Runs of cases with a count of those that passed and failed; a failing case is cut down and shown.
 
-use crate::builder::{Book, Builder};
+use crate::builder::{Book, Builder, Call};
 use crate::case::{Case, Start};
 use crate::checks::{against_words, reading, small_case, yard};
-use crate::compare::{compare, lawful};
+use crate::compare::{compare, lawful, Counts};
 use crate::cut::cut;
 use crate::demands::{round_trip, Built};
 use crate::evenings::{evenings, held};
@@ -12,14 +12,18 @@ use crate::random::Random;
 use crate::texts;
 use crate::words::Words;
 use crate::yards;
+use std::cell::RefCell;
 use std::collections::BTreeMap;
 use std::panic::{catch_unwind, AssertUnwindSafe};
+use std::time::{Duration, Instant};
 
 /// How many passed and failed.
 #[derive(Default)]
 pub struct Tally {
     pub passed: usize,
     pub failed: usize,
+    /// How many calls of each kind a comparison compared, in the cases that passed.
+    pub calls: Counts,
 }
 
 type Answer = Result<(), String>;
@@ -193,13 +197,55 @@ pub fn coverage(builder: &dyn Builder, first: u64, count: u64) -> String {
     counts.join(", ")
 }
 
-/// Compares two builders on all fixed cases and on those of some seeds.
-pub fn against(a: &dyn Builder, b: &dyn Builder, first: u64, count: u64) -> Tally {
+/// Compares two builders on some cases. What was compared is counted by call.
+pub fn against(a: &dyn Builder, b: &dyn Builder, cases: impl Iterator<Item = Case>) -> Tally {
     let mut tally = Tally::default();
-    for case in fixed().into_iter().chain((first..first + count).flat_map(of_seed)) {
-        tally.case(&case, |case| compare(a, b, case).map_err(|difference| difference.to_string()));
+    let mut slowest = (Duration::ZERO, String::new());
+    for case in cases {
+        let failed = tally.failed;
+        let began = Instant::now();
+        let found = RefCell::new(Counts::new());
+        tally.case(&case, |case| {
+            let counts = compare(a, b, case).map_err(|difference| difference.to_string())?;
+            found.replace(counts);
+            Ok(())
+        });
+        if tally.failed == failed {
+            for (call, count) in found.take() {
+                *tally.calls.entry(call).or_default() += count;
+            }
+        }
+        if began.elapsed() > slowest.0 {
+            slowest = (began.elapsed(), format!("{} seed {}", case.family, case.seed));
+        }
     }
+    println!("the slowest case: {}, {:.1} s", slowest.1, slowest.0.as_secs_f64());
     tally
+}
+
+/// The cases of a comparison: the fixed ones and those of some seeds.
+pub fn cases(first: u64, count: u64) -> impl Iterator<Item = Case> {
+    fixed().into_iter().chain((first..first + count).flat_map(of_seed))
+}
+
+/// What a comparison did not reach: the calls that one of the two has not. A call that both have and that was never
+/// compared counts as failed.
+pub fn told(tally: &mut Tally, a: &dyn Builder, b: &dyn Builder) {
+    let shown: Vec<String> = tally.calls.iter().map(|(call, count)| format!("{} {count}", call.name())).collect();
+    println!("calls of {} compared with {}: {}", a.name(), b.name(), shown.join(", "));
+    for builder in [a, b] {
+        let missing: Vec<&str> = Call::ALL.into_iter().filter(|call| !builder.has(*call)).map(Call::name).collect();
+        if !missing.is_empty() {
+            println!("not compared, since {} has no such call: {}", builder.name(), missing.join(", "));
+        }
+    }
+    for call in Call::ALL.into_iter().filter(|call| a.has(*call) && b.has(*call)) {
+        let count = tally.calls.get(&call).copied().unwrap_or(0);
+        tally.count(&format!("the call {} was never compared", call.name()), || match count {
+            0 => Err("no case made it".to_string()),
+            _ => Ok(()),
+        });
+    }
 }
 
 /// A clause text from a file: all that can be known of it.

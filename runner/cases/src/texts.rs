@@ -41,6 +41,16 @@ pub fn damaged(seed: u64) -> Case {
     damaged
 }
 
+/// A text damaged in one or two ways.
+pub fn damaged_text(seed: u64, text: Vec<u8>) -> Case {
+    let random = &mut Random::new(seed ^ 0x7e48);
+    let mut text = text;
+    for _ in 0..random.within(1, 2) {
+        damage(random, &mut text);
+    }
+    Case::of_text("a damaged full text", seed, text)
+}
+
 fn damage(random: &mut Random, text: &mut Vec<u8>) {
     if text.is_empty() {
         return;

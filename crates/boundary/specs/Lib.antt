@@ -1,0 +1,3 @@
+-- What the boundary says of its own.
+pub mod Answers
+pub mod Settled
