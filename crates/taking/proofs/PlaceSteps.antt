@@ -1,51 +1,72 @@
--- The gates of a part, one by one; and a gate put in its place.
-use Rattle.std.proofs.Common.{◌≡◌, ◌∙◌, refl, ap, ℕ, zero, suc, ◌+◌, ◌<◌, ◌≤◌, Bool, true, false, cond, List, [], ◌∷◌, ◌++◌, take, filter, length, get_or, set, not, arith, append_assoc, length-append}
-use Rattle.std.proofs.lemmas.List.{take_all, take_more_set}
+-- The gates taken are split in two parts, gate by gate.
+use Rattle.std.proofs.Common.{◌≡◌, ◌∙◌, refl, sym, ap, ℕ, ◌+◌, ◌-◌, ◌<◌, ◌≤◌, Bool, true, false, cond, not, List, [], ◌∷◌, ◌++◌, take, drop, filter, length, get_or, set, arith, append_assoc, length-set}
+use Rattle.std.proofs.lemmas.List.{take_more_set, drop-set-lt, drop-drop, get_or-drop, append-nil, take-append-le, length-take-le}
+use Rattle.std.proofs.lemmas.Slice.{take-put_mid}
+use borrow.Rule.Slice.PartMut.{put_mid}
 use Rattle.std.proofs.lemmas.List.Elements.{filter_more}
-use Rattle.std.proofs.lemmas.List.Filters.{length-filter_both}
-use Rattle.tables.specs.Literal.{var}
-use Rattle.rules.specs.Forced.{marked}
 use Rattle.gates.specs.declared.site.Site.{Site}
-use Rattle.taking.specs.Placing.{in_part, placed}
+use Rattle.taking.specs.Placing.{depends, stays}
 
-module _ {X : Type 0} (p : X → Bool) where
-  filtered_more : (xs : List X) (i : ℕ) (d : X) → i < length xs → filter p (take (i + 1) xs) ≡ filter p (take i xs) ++ filter p (get_or xs i d ∷ [])
-  filtered_more xs i d h = filter_more p xs i d h
+-- The gates before a place are split: the first `kept` of the row stay, and the others are in the row of the later ones.
+pub record Split (m : List ℕ) (old row later : List Site) (i kept : ℕ) : Type 0 where
+  pub within : kept ≤ i
+  pub staying : take kept row ≡ filter (stays m) (take i old)
+  pub depending : take (i - kept) later ≡ filter (depends m) (take i old)
+  pub rest : drop i row ≡ drop i old
 
-  filtered_room : (xs : List X) (i : ℕ) (d : X) → i < length xs → p (get_or xs i d) ≡ true → length (filter p (take i xs)) < length (filter p xs)
-  filtered_room [] i d h e = absurd (omega arith)
-  filtered_room (x ∷ xs) zero d h e = rw (e) (omega arith)
-  filtered_room (x ∷ xs) (suc i) d h e = go (p x) (filtered_room xs i d (omega arith) e)
-    where
-      go : (b : Bool) → length (filter p (take i xs)) < length (filter p xs) → length (cond b (x ∷ filter p (take i xs)) (filter p (take i xs))) < length (cond b (x ∷ filter p xs) (filter p xs))
-      go true h = omega arith
-      go false h = h
+kept_one : {X : Type 0} (p : X → Bool) (xs : List X) (i : ℕ) (d : X) → i < length xs → p (get_or xs i d) ≡ true → filter p (take (i + 1) xs) ≡ filter p (take i xs) ++ (get_or xs i d ∷ [])
+kept_one p xs i d h e = filter_more p xs i d h ∙ ap (λ b. filter p (take i xs) ++ cond b (get_or xs i d ∷ []) []) e
 
-module _ (b : Bool) (m : List ℕ) (xs : List Site) (i : ℕ) (d : Site) (h : i < length xs) where
-  pub part_more : filter (in_part b m) (take (i + 1) xs) ≡ filter (in_part b m) (take i xs) ++ filter (in_part b m) (get_or xs i d ∷ [])
-  part_more = filtered_more (in_part b m) xs i d h
+kept_none : {X : Type 0} (p : X → Bool) (xs : List X) (i : ℕ) (d : X) → i < length xs → p (get_or xs i d) ≡ false → filter p (take (i + 1) xs) ≡ filter p (take i xs)
+kept_none p xs i d h e = filter_more p xs i d h ∙ ap (λ b. filter p (take i xs) ++ cond b (get_or xs i d ∷ []) []) e ∙ append-nil (filter p (take i xs))
 
-  pub part_count : length (filter (in_part b m) (take (i + 1) xs)) ≡ length (filter (in_part b m) (take i xs)) + length (filter (in_part b m) (get_or xs i d ∷ []))
-  part_count = ap length part_more ∙ length-append (filter (in_part b m) (take i xs)) (filter (in_part b m) (get_or xs i d ∷ []))
+module _ (m : List ℕ) (old row later : List Site) (i kept : ℕ) (d : Site) (h : i < length old) (s : Split m old row later i kept) where
+  here : get_or row i d ≡ get_or old i d
+  here =
+      let n : i ≡ i + 0 = omega arith in
+      ap (λ k. get_or row k d) n ∙ sym (get_or-drop i row 0 d) ∙ ap (λ xs. get_or xs 0 d) s.rest ∙ get_or-drop i old 0 d ∙ ap (λ k. get_or old k d) (sym n)
 
-  pub part_room : in_part b m (get_or xs i d) ≡ true → length (filter (in_part b m) (take i xs)) < length (filter (in_part b m) xs)
-  part_room e = filtered_room (in_part b m) xs i d h e
+  on : drop (i + 1) row ≡ drop (i + 1) old
+  on = sym (drop-drop 1 i row) ∙ ap (drop 1) s.rest ∙ drop-drop 1 i old
 
-pub part_all : (b : Bool) (m : List ℕ) (xs : List Site) (i : ℕ) → length xs ≤ i → filter (in_part b m) (take i xs) ≡ filter (in_part b m) xs
-part_all b m xs i h = ap (filter (in_part b m)) (take_all i xs h)
+  pub split_later : depends m (get_or row i d) ≡ true → i - kept < length later → Split m old row (set later (i - kept) (get_or row i d)) (i + 1) kept
+  split_later e l =
+      let w = s.within in
+      let t : depends m (get_or old i d) ≡ true = ap (depends m) (sym here) ∙ e in
+      let n : i + 1 - kept ≡ i - kept + 1 = omega arith in
+      record {
+        within = omega arith;
+        staying = s.staying ∙ sym (kept_none (stays m) old i d h (ap not t));
+        depending =
+            ap (λ k. take k (set later (i - kept) (get_or row i d))) n ∙ take_more_set later (i - kept) (get_or row i d) l
+            ∙ ap (λ xs. xs ++ (get_or row i d ∷ [])) s.depending ∙ ap (λ x. filter (depends m) (take i old) ++ (x ∷ [])) here
+            ∙ sym (kept_one (depends m) old i d h t);
+        rest = on;
+      }
 
-twice : (b : Bool) → b ≡ not (not b)
-twice true = refl
-twice false = refl
+  pub split_stays : depends m (get_or row i d) ≡ false → i < length row → Split m old (set row kept (get_or row i d)) later (i + 1) (kept + 1)
+  split_stays e l =
+      let w = s.within in
+      let t : depends m (get_or old i d) ≡ false = ap (depends m) (sym here) ∙ e in
+      let n : i + 1 - (kept + 1) ≡ i - kept = omega arith in
+      record {
+        within = omega arith;
+        staying =
+            take_more_set row kept (get_or row i d) (omega arith) ∙ ap (λ xs. xs ++ (get_or row i d ∷ [])) s.staying
+            ∙ ap (λ x. filter (stays m) (take i old) ++ (x ∷ [])) here ∙ sym (kept_one (stays m) old i d h (ap not t));
+        depending = ap (λ k. take k later) n ∙ s.depending ∙ sym (kept_none (depends m) old i d h t);
+        rest = drop-set-lt (i + 1) row kept (get_or row i d) (omega arith) ∙ on;
+      }
 
-pub parts_count : (m : List ℕ) (xs : List Site) → length (filter (in_part false m) xs) + length (filter (in_part true m) xs) ≡ length xs
-parts_count m xs = length-filter_both (in_part false m) (in_part true m) (λ s. twice (marked m (var s.output))) xs
+pub split_starts : (m : List ℕ) (old later : List Site) → Split m old old later 0 0
+split_starts m old later = record { within = omega arith; staying = refl; depending = refl; rest = refl }
 
--- What is written: the one part, the gate, the other part.
-pub between_parts : (m : List ℕ) (xs fst snd : List Site) (s : Site) (e k : ℕ) → e < length fst → k ≡ e + 1 + length (filter (in_part true m) xs) → e ≡ length (filter (in_part false m) xs)
-    → take e fst ≡ filter (in_part false m) xs → take k snd ≡ take (e + 1) (set fst e s) ++ filter (in_part true m) xs
-    → take (length xs + 1) snd ≡ placed m xs s
-between_parts m xs fst snd s e k h q r f g =
-    let n : length xs + 1 ≡ k = omega (arith, parts_count m xs) in
-    ap (λ i. take i snd) n ∙ g ∙ ap (λ ys. ys ++ filter (in_part true m) xs) (take_more_set fst e s h ∙ ap (λ ys. ys ++ (s ∷ [])) f)
-    ∙ append_assoc (filter (in_part false m) xs) (s ∷ []) (filter (in_part true m) xs)
+-- A gate is laid between the two parts.
+pub laid : (row rest later copied : List Site) (site : Site) (count kept n : ℕ) (fst snd : List Site) → kept ≤ length row → kept ≤ count → count < length (row ++ rest) → count ≤ length later → n ≡ count
+    → copied ≡ take (count - kept) later → take kept row ≡ fst → take (n - kept) later ≡ snd
+    → take (count + 1) (put_mid (kept + 1) (count + 1 - (kept + 1)) (set (row ++ rest) kept site) copied) ≡ fst ++ (site ∷ snd)
+laid row rest later copied site count kept n fst snd h k w l q c f s =
+    let long : length copied ≡ count - kept = ap length c ∙ length-take-le (count - kept) later (omega arith) in
+    take-put_mid (kept + 1) (count + 1 - (kept + 1)) (set (row ++ rest) kept site) copied (count + 1) (omega (arith, long)) (omega (arith, length-set (row ++ rest) kept site))
+    ∙ ap (λ xs. xs ++ copied) (take_more_set (row ++ rest) kept site (omega arith) ∙ ap (λ xs. xs ++ (site ∷ [])) (take-append-le kept row rest h ∙ f))
+    ∙ ap (λ ys. (fst ++ (site ∷ [])) ++ ys) (c ∙ ap (λ i. take (i - kept) later) (sym q) ∙ s) ∙ append_assoc fst (site ∷ []) snd

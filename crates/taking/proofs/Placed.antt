@@ -9,7 +9,7 @@ use Rattle.rules.specs.Patterns.{Gate}
 use Rattle.rules.specs.Taking.{dependents, place}
 use Rattle.gates.specs.declared.site.Site.{Site}
 use Rattle.gates.specs.Sites.{gate_of, gates_of}
-use Rattle.taking.specs.Placing.{in_part, placed}
+use Rattle.taking.specs.Placing.{depends, stays, placed}
 use Rattle.gates.proofs.SiteLaws.{output_at}
 
 module _ (row : List ℤ) (p : ℕ → Bool) where
@@ -37,12 +37,12 @@ gates_placed row n m sites s e =
   where
     parts : (d : List ℕ) → gates_of row (placed d sites s) ≡ joined (gates_of row sites) (gate_of row s) d
     parts d =
-        map-append (gate_of row) (filter (in_part false d) sites) (s ∷ filter (in_part true d) sites)
-        ∙ ap (λ gs. gs ++ (gate_of row s ∷ gates_of row (filter (in_part true d) sites))) (filter_gates row (λ v. not (marked d v)) sites)
+        map-append (gate_of row) (filter (stays d) sites) (s ∷ filter (depends d) sites)
+        ∙ ap (λ gs. gs ++ (gate_of row s ∷ gates_of row (filter (depends d) sites))) (filter_gates row (λ v. not (marked d v)) sites)
         ∙ ap (λ gs. filter (λ h. not (marked d h.output)) (gates_of row sites) ++ (gate_of row s ∷ gs)) (filter_gates row (marked d) sites)
 
 -- What holds of each gate and of the new one holds of each afterwards.
 pub all_placed : (P : Site → Type 0) (m : List ℕ) (sites : List Site) (s : Site) → All P sites → P s → All P (placed m sites s)
 all_placed P m sites s h q =
-    All-append P (filter (in_part false m) sites) (s ∷ filter (in_part true m) sites) (All-filter (in_part false m) P sites h)
-    (All-cons P s (filter (in_part true m) sites) q (All-filter (in_part true m) P sites h))
+    All-append P (filter (stays m) sites) (s ∷ filter (depends m) sites) (All-filter (stays m) P sites h)
+    (All-cons P s (filter (depends m) sites) q (All-filter (depends m) P sites h))
