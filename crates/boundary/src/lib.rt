@@ -6,5 +6,6 @@ pub mod answer;
 pub mod desk;
 pub mod paper;
 pub mod plans;
+pub mod printing;
 pub mod settled;
 pub mod yard;

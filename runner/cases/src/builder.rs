@@ -19,10 +19,11 @@ pub enum Call {
     Fill,
     Ask,
     Program,
+    Run,
 }
 
 impl Call {
-    pub const ALL: [Call; 11] = [
+    pub const ALL: [Call; 12] = [
         Call::Check,
         Call::LookUp,
         Call::Read,
@@ -34,6 +35,7 @@ impl Call {
         Call::Fill,
         Call::Ask,
         Call::Program,
+        Call::Run,
     ];
 
     pub fn name(self) -> &'static str {
@@ -49,6 +51,7 @@ impl Call {
             Call::Fill => "fill",
             Call::Ask => "ask",
             Call::Program => "program",
+            Call::Run => "run",
         }
     }
 }
@@ -59,9 +62,10 @@ pub trait Builder {
     fn name(&self) -> &str;
 
     /// Whether the builder has this call. A call that it has not is never made; a comparison leaves it out on both sides
-    /// and says so. The rounds by themselves are no call of the rules, so a builder has them only where it says so.
+    /// and says so. The rounds by themselves, and the build program as a process of its own, are no calls of the rules, so
+    /// a builder has them only where it says so.
     fn has(&self, call: Call) -> bool {
-        call != Call::Settle
+        !matches!(call, Call::Settle | Call::Run)
     }
 
     /// Checks a table.
@@ -101,6 +105,11 @@ pub trait Builder {
 
     /// The build program: clause text in, the listing or the X line out.
     fn program(&self, text: &[u8]) -> Vec<u8>;
+
+    /// The same, where it can be run as a process: text on standard input, and what comes on standard output.
+    fn run(&self, text: &[u8]) -> Vec<u8> {
+        self.program(text)
+    }
 }
 
 /// The second program.
@@ -212,7 +221,7 @@ impl Builder for Proved {
     }
 
     fn has(&self, call: Call) -> bool {
-        call != Call::Program || proved::program_file().is_file()
+        call != Call::Run || proved::program_file().is_file()
     }
 
     fn check(&self, n: u32, table: &[i32]) -> Numbers {
@@ -257,6 +266,13 @@ impl Builder for Proved {
     }
 
     fn program(&self, text: &[u8]) -> Vec<u8> {
-        proved::program(text).unwrap_or_default()
+        let mut out = vec![7; 65_536];
+        let answer = proved::program(text, &mut out);
+        out.truncate(answer.first);
+        out
+    }
+
+    fn run(&self, text: &[u8]) -> Vec<u8> {
+        proved::run(text).unwrap_or_default()
     }
 }

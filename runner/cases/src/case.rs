@@ -20,6 +20,17 @@ pub enum Move {
     TakeBack,
 }
 
+/// How much of the walk through all calls a case takes.
+#[derive(Clone, Copy, Debug, PartialEq, Eq)]
+pub enum Pace {
+    /// Every call with every buffer.
+    Whole,
+    /// Every call, with few of the buffers: for full yards, of which a call takes a tenth of a second.
+    Lean,
+    /// The rounds, a build, a pin and a take-back, once each: for full ladders, of which a call takes seconds.
+    Brief,
+}
+
 #[derive(Clone, Debug)]
 pub struct Case {
     /// Which generator made it.
@@ -31,21 +42,37 @@ pub struct Case {
     pub moves: Vec<Move>,
     /// The values given to a fill or an ask.
     pub values: Vec<u8>,
-    /// Whether it is walked through with one call of each kind: it has so many rounds that one call may take seconds.
-    pub brief: bool,
+    pub pace: Pace,
+    /// Whether it is one of thousands that differ in a byte, and no process is started for it.
+    pub many: bool,
 }
 
 impl Case {
     pub fn of_table(family: &str, seed: u64, n: u32, table: Vec<i32>) -> Case {
         let values = vec![0; n as usize];
         let start = Start::Table { n, table };
-        Case { family: family.to_string(), seed, start, book: Book::EMPTY, moves: Vec::new(), values, brief: false }
+        Case {
+            family: family.to_string(),
+            seed,
+            start,
+            book: Book::EMPTY,
+            moves: Vec::new(),
+            values,
+            pace: Pace::Whole,
+            many: false,
+        }
     }
 
     pub fn of_text(family: &str, seed: u64, text: Vec<u8>) -> Case {
         let mut case = Case::of_table(family, seed, 1_024, Vec::new());
         case.start = Start::Text(text);
         case
+    }
+
+    /// The same case, walked through leanly if it is a large one.
+    pub fn lean(self) -> Case {
+        let large = self.pace == Pace::Whole && self.size() > 6_000;
+        Case { pace: if large { Pace::Lean } else { self.pace }, ..self }
     }
 
     /// The entries or bytes that it starts from; the cutter wants fewer.

@@ -5,7 +5,7 @@
 //! answer alike; the first step where they don't is the difference.
 
 use crate::builder::{Book, Builder, Call};
-use crate::case::{Case, Move, Start};
+use crate::case::{Case, Move, Pace, Start};
 use crate::lent::{Given, Lending, Outcome};
 use std::collections::BTreeMap;
 use std::fmt;
@@ -98,6 +98,9 @@ pub fn walk(builder: &dyn Builder, case: &Case, takes: &dyn Fn(Call) -> bool) ->
         Start::Table { n, table } => table_calls(&mut lending, case, *n, table),
         Start::Text(text) => {
             lending.program(text);
+            if !case.many {
+                lending.run(text);
+            }
             let read = lending.read(text, 16_400);
             let row = lending.outcomes.last().map(|outcome| outcome.entries.clone()).unwrap_or_default();
             if read.is_accepted() && row.len() >= read.second {
@@ -133,33 +136,40 @@ fn table_calls(lending: &mut Lending, case: &Case, n: u32, table: &[i32]) {
     for k in [0, 1, 2, 3, zeros / 2, zeros.wrapping_sub(1), zeros, zeros + 1, 4_096, usize::MAX] {
         lending.clause(n, table, k);
     }
-    if case.brief {
-        brief_round(lending, case, Given { n, table, book: &case.book, work: 16_400 });
-        return;
+    let given = Given { n, table, book: &case.book, work: 16_384 };
+    match case.pace {
+        Pace::Whole => full_round(lending, case, given),
+        Pace::Lean => lean_round(lending, case, given),
+        Pace::Brief => return brief_round(lending, given),
     }
-    full_round(lending, case, Given { n, table, book: &case.book, work: 16_384 });
     let mut book = case.book;
     for step in &case.moves {
         let given = Given { n, table, book: &book, work: 16_384 };
         book = match step {
             Move::Pin(literal) => {
-                lending.pin(Given { work: 16_383, ..given }, *literal);
-                lending.pin(Given { work: 16_400, ..given }, *literal);
+                if case.pace == Pace::Whole {
+                    lending.pin(Given { work: 16_383, ..given }, *literal);
+                    lending.pin(Given { work: 16_400, ..given }, *literal);
+                }
                 lending.pin(given, *literal)
             }
             Move::TakeBack => lending.take_back(&book),
         };
         short_round(lending, case, Given { n, table, book: &book, work: 16_384 });
     }
-    if !case.moves.is_empty() {
+    if !case.moves.is_empty() && case.pace == Pace::Whole {
         full_round(lending, case, Given { n, table, book: &book, work: 16_384 });
     }
 }
 
+/// Room that a listing never passes but by clauses of very long numbers.
+fn generous(given: Given) -> usize {
+    512 + 10 * given.table.len() + 16 * (given.n as usize).min(1_024)
+}
+
 /// Builds with room enough, or with the room that a first refusal names.
 fn short_round(lending: &mut Lending, case: &Case, given: Given) -> usize {
-    let generous = 512 + 10 * given.table.len() + 16 * (given.n as usize).min(1_024);
-    let mut built = lending.build(given, generous);
+    let mut built = lending.build(given, generous(given));
     if built.number == 8 {
         built = lending.build(given, built.place);
     }
@@ -171,10 +181,30 @@ fn short_round(lending: &mut Lending, case: &Case, given: Given) -> usize {
     built.second
 }
 
-/// One call of each kind.
-fn brief_round(lending: &mut Lending, case: &Case, given: Given) {
-    short_round(lending, case, given);
+/// The rounds, a build, a pin and a take-back, once each.
+fn brief_round(lending: &mut Lending, given: Given) {
+    let given = Given { work: 16_400, ..given };
+    lending.settle(given, given.n.min(2_000) as usize + 1);
+    lending.build(given, generous(given));
     let book = lending.pin(given, given.n.min(1_024) as i32);
+    lending.take_back(&book);
+}
+
+/// All calls with this book, each with room that just does and with one buffer short of it.
+fn lean_round(lending: &mut Lending, case: &Case, given: Given) {
+    let needed = short_round(lending, case, given);
+    let n = (given.n as usize).min(2_000);
+    lending.build(Given { work: 16_400, ..given }, needed);
+    lending.build(given, needed.saturating_sub(1));
+    lending.fill(given, &case.values, n.saturating_sub(1));
+    let short = Given { work: 16_383, ..given };
+    lending.settle(short, n + 1);
+    lending.build(short, needed);
+    lending.fill(short, &case.values, n);
+    lending.ask(short, &case.values, 1);
+    lending.ask(given, &case.values, given.n.saturating_add(1));
+    lending.pin(short, 1);
+    let book = lending.pin(given, -1);
     lending.take_back(&book);
 }
 

@@ -1,6 +1,6 @@
 //! All cases in one row, for comparing two builders: the fixed ones, the slowest ones, and those of each seed.
 
-use crate::case::{table_of, text_of, Case, Move, Start};
+use crate::case::{table_of, text_of, Case, Move, Pace, Start};
 use crate::evenings;
 use crate::random::Random;
 use crate::small::{desk, small};
@@ -22,7 +22,8 @@ pub fn fixed() -> Vec<Case> {
     cases.push(Case::of_text("long listing", 0, texts::long_listing()));
     let valid = texts::VALID.as_bytes();
     let spoiled = (0..valid.len()).flat_map(|place| texts::spoiled(valid, place));
-    cases.extend(texts::cuts(valid).chain(spoiled).map(|text| Case::of_text("a damaged byte", 0, text)));
+    let damaged = texts::cuts(valid).chain(spoiled).map(|text| Case::of_text("a damaged byte", 0, text));
+    cases.extend(damaged.map(|case| Case { many: true, ..case }));
     cases
 }
 
@@ -37,7 +38,7 @@ fn is_slow(case: &Case) -> bool {
 }
 
 fn brief(case: Case) -> Case {
-    Case { brief: true, ..case }
+    Case { pace: Pace::Brief, ..case }
 }
 
 /// The cases of one seed, small ones first.

@@ -264,4 +264,12 @@ impl<'a> Lending<'a> {
         let printed = self.builder.program(text);
         self.add(Call::Program, "program".to_string(), Numbers::accepted(0, 0)).bytes = printed;
     }
+
+    pub fn run(&mut self, text: &[u8]) {
+        if !(self.takes)(Call::Run) {
+            return;
+        }
+        let printed = self.builder.run(text);
+        self.add(Call::Run, "the program run".to_string(), Numbers::accepted(0, 0)).bytes = printed;
+    }
 }

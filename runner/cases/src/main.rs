@@ -30,7 +30,7 @@ fn main() -> ExitCode {
             Ok(tally) => tally,
             Err(error) => return broken(folder, &error),
         },
-        ["compare"] => compared(cases(1, COMPARED)),
+        ["compare"] => compared(cases(1, COMPARED).map(Case::lean)),
         ["compare-long", seed, count] => match (seed.parse(), count.parse()) {
             (Ok(seed), Ok(count)) => compared(cases(seed, count).chain(slowest())),
             _ => return usage(),

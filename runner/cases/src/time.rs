@@ -91,7 +91,7 @@ fn measured(builder: &dyn Builder, call: Call, input: &Input, memory: &mut Memor
         Call::Build => builder.build(*n, table, row, book, bytes),
         Call::Fill => builder.fill(*n, table, row, book, values, bytes),
         Call::Ask => builder.ask(*n, table, row, book, values, *n),
-        Call::LookUp | Call::TakeBack | Call::Program => Numbers::accepted(0, 0),
+        Call::LookUp | Call::TakeBack | Call::Program | Call::Run => Numbers::accepted(0, 0),
     }
 }
 

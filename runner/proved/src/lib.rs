@@ -60,6 +60,7 @@ unsafe extern "C" {
         entry: i32,
     ) -> Answer;
     fn choptimber_take_back(book: *mut LentBook) -> Answer;
+    fn choptimber_program(text: *const u8, bytes: usize, out: *mut u8, room: usize) -> Answer;
     fn choptimber_build(
         n: usize,
         table: *const i32,
@@ -158,16 +159,21 @@ pub fn ask(n: usize, table: &[i32], book: &LentBook, work: &mut [i32], given: &[
     unsafe { choptimber_ask(n, table, entries, book, work, room, given.as_ptr(), givens, variable) }
 }
 
+/// What the build program prints for a text, into a buffer of 65,536 bytes; also returns the bytes.
+pub fn program(text: &[u8], out: &mut [u8]) -> Answer {
+    unsafe { choptimber_program(text.as_ptr(), text.len(), out.as_mut_ptr(), out.len()) }
+}
+
 /// Where the toolchain leaves the build program.
 pub fn program_file() -> PathBuf {
     Path::new(env!("CARGO_MANIFEST_DIR")).join("../../crates/choptimber/out/choptimber")
 }
 
-/// The build program, run on a text: what it prints.
-pub fn program(text: &[u8]) -> io::Result<Vec<u8>> {
+/// The build program itself, run on a text: what it prints on standard output.
+pub fn run(text: &[u8]) -> io::Result<Vec<u8>> {
     let mut running = Command::new(program_file()).stdin(Stdio::piped()).stdout(Stdio::piped()).spawn()?;
     if let Some(mut input) = running.stdin.take() {
-        // It may stop reading behind the last byte that it can use.
+        // It stops reading behind the first byte that is too many.
         let _ = input.write_all(text);
     }
     Ok(running.wait_with_output()?.stdout)
