@@ -1,5 +1,5 @@
 -- Laws of an evening: what the theorems about the rounds say of one.
-use Rattle.std.proofs.Common.{◌≡◌, ◌∙◌, refl, sym, ap, subst, ℕ, zero, suc, ◌+◌, ◌*◌, ◌<◌, ◌≤◌, List, [], ◌∷◌, length, get_or, arith, ℤ, true, not}
+use Rattle.std.proofs.Common.{◌≡◌, ◌∙◌, refl, sym, ap, subst, ℕ, zero, suc, ◌+◌, ◌*◌, ◌<◌, ◌≤◌, List, [], ◌∷◌, length, get_or, eqb, arith, ℤ, true, not, eq-eqb}
 use Rattle.std.specs.Prelude.{Ok}
 use mathlib.Core.List.Memᴰ
 use mathlib.Core.List.{Memᴰ}
@@ -23,12 +23,13 @@ use Rattle.cleaning.proofs.LastEntries.{inside_entries, ended_last}
 use Rattle.rounds.proofs.RoundSteps.{all_inside}
 use Rattle.taking.specs.Settled.{IsSettled}
 use Rattle.rules.specs.Calls.{rounds_in, stands_in, gates_in, listed, bad_values}
-use Rattle.ways.proofs.Members.{get_or-mem}
+use Rattle.ways.proofs.Rows.{mem-list_any}
+use Rattle.ways.proofs.Members.{get_or-mem, among-mem}
 use Rattle.gates.specs.Sites.{gate_of, gates_of}
 use Rattle.gates.specs.TakenGates as Taken
 use Rattle.gates.specs.declared.site.Site.{Site}
 use Rattle.gates.proofs.SiteLaws.{output_at}
-use Rattle.listing.specs.Apart.{Apart}
+use Rattle.filling.specs.Outputs.{Apart, Speaking}
 use Rattle.builder.specs.Evenings.{IsEvening, Evaluates}
 use Rattle.builder.specs.Builds.{listing_of}
 use Rattle.builder.specs.Values.{is_bad, bad_in}
@@ -82,6 +83,10 @@ module _ (n : ℕ) (t pins : List ℤ) (good : checked n t ≡ Ok tt) (in_range 
   unfolding taken
   gates_inside = gates_within n st cs left_settled (allowed n) (λ gs g e. e)
 
+  gates_speak : (g : Gate) → Memᴰ g (taken n cs) → (c : List ℕ) → Memᴰ c g.pattern → (l : ℕ) × Memᴰ l c × (var l ≡ g.output)
+  unfolding taken
+  gates_speak g i = ((are_taken n st cs left_settled (allowed n) (λ gs g e. e)).valid g i).speaks.output_in
+
   -- Where these gates stand.
   module _ (row : List ℤ) (sites : List Site) (are : gates_of row sites ≡ taken n cs) where
     pub sites_inside : All (λ s. var s.output ≤ n) sites
@@ -92,6 +97,11 @@ module _ (n : ℕ) (t pins : List ℤ) (good : checked n t ≡ Ok tt) (in_range 
 
     pub sites_apart : Apart sites
     sites_apart = ordered_apart row sites (rw are gates_ordered)
+
+    pub sites_speak : Speaking row sites
+    sites_speak s i c a =
+        let (l, j, q) = gates_speak (gate_of row s) (subst (Memᴰ (gate_of row s)) are (Memᴰ.map (gate_of row) i)) c (among-mem c (gate_of row s).pattern a) in
+        mem-list_any (λ l. eqb (var s.output) (var l)) c l j (eq-eqb (var s.output) (var l) (sym (output_at row s) ∙ sym q))
 
 -- The evening of a table and pins.
 module _ (n : ℕ) (t pins : List ℤ) (good : checked n t ≡ Ok tt) (in_range : list_all (λ x. not (out_of_range n x)) pins ≡ true) (e : Evening)

@@ -5,3 +5,4 @@ pub mod AskSteps
 pub mod FillSteps
 pub mod Filled
 pub mod AskPlaces
+pub mod Spoken

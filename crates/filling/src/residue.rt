@@ -7,13 +7,16 @@ ghost use Rattle.rules.specs.Patterns.{group, side};
 ghost use Rattle.rules.specs.Circuit.{in_pattern};
 ghost use Rattle.gates.specs.Sites.{Within, gate_of};
 ghost use Rattle.gates.specs.TakenGates.{gates_in};
+ghost use Rattle.filling.specs.Places.{IsPlaced};
+ghost use Rattle.filling.specs.Outputs.{Apart, Speaking, in_pattern_at};
 
+use crate::places::gate_for;
 use gates::site::Site;
 use gates::taken::Taken;
 use gates::value::is_odd;
 use rules::sides::side;
 use tables::clause::{has_literal, has_variables_of, is_clause_of, is_same};
-use tables::literal::{literal, opposite};
+use tables::literal::{literal, opposite, var};
 
 /// Whether the clause is that of the output with another literal: of the opposites of both.
 fn is_side(clause: &[i32], output: usize, other: usize) -> bool
@@ -65,12 +68,29 @@ fn is_in(row: &[i32], site: Site, clause: &[i32]) -> bool
     }
 }
 
-/// Whether the clause is in the pattern of one of the gates.
-pub fn in_pattern(taken: &Taken, clause: &[i32]) -> bool
+/// Whether the clause is in the pattern of the gate whose output the variable is, if there is one.
+fn in_pattern_at(taken: &Taken, places: &[u16], clause: &[i32], variable: usize) -> bool
+    requires placed { IsPlaced taken.now.sites.now places.now }
+    requires apart { Apart taken.now.sites.now }
+    ensures { result ≡ in_pattern_at taken.now.row.now taken.now.sites.now (map literal clause.now) variable }
+{
+    match gate_for(taken.sites, places, variable) {
+        Some(site) => is_in(taken.row, site, clause),
+        None => false,
+    }
+}
+
+/// Whether the clause is in the pattern of one of the gates. Only those are looked at whose outputs it speaks of.
+pub fn in_pattern(taken: &Taken, places: &[u16], clause: &[i32]) -> bool
+    requires placed { IsPlaced taken.now.sites.now places.now }
+    requires apart { Apart taken.now.sites.now }
+    requires speaking { Speaking taken.now.row.now taken.now.sites.now }
     ensures { result ≡ in_pattern (gates_in taken.now) (map literal clause.now) }
 {
-    taken
-        .sites
-        .iter()
-        .any(|&site| is_in(taken.row, site, clause))
+    for &entry in clause {
+        if in_pattern_at(taken, places, clause, var(literal(entry))) {
+            return true;
+        }
+    }
+    false
 }

@@ -16,7 +16,8 @@ use Rattle.gates.specs.Inputs.{input, inputs}
 use Rattle.gates.proofs.SiteLaws.{output_at}
 use Rattle.gates.proofs.SiteGates.{inputs_are}
 use Rattle.texts.proofs.LaySteps.{laid_none, laid_behind}
-use Rattle.listing.specs.Apart.{Apart}
+use Rattle.filling.specs.Outputs.{Apart}
+use Rattle.filling.proofs.Spoken.{apart_from}
 use Rattle.listing.specs.Chains.{on_level}
 use Rattle.listing.proofs.ChainSteps.{left, Behind, only_these}
 use Rattle.listing.specs.Fields.{field, fields}
@@ -46,11 +47,6 @@ inputs_fields kind row site es e = rw (inputs_are row site, e) (others_fields ki
 none_kept : (row : List ℤ) (v : ℕ) (b : Bool) (sites : List Site) → ((s : Site) → Memᴰ s sites → v ≡ var s.output → ⊥) → filter (λ g. eqb g.output v && b) (gates_of row sites) ≡ []
 none_kept row v b [] h = refl
 none_kept row v b (s ∷ sites) h = rw (output_at row s, ne_eqb (var s.output) v (λ e. h s (Memᴰ.head refl) (sym e)), none_kept row v b sites (λ t i. h t (Memᴰ.tail i))) refl
-
-apart_from : (s : Site) (sites : List Site) → ((j : ℕ) (d : Site) → j < length sites → var s.output ≡ var (get_or sites j d).output → ⊥) → (t : Site) → Memᴰ t sites → var s.output ≡ var t.output → ⊥
-apart_from s [] h t i = elim i [ ]
-apart_from s (u ∷ sites) h t (Memᴰ.head e) = λ q. h 0 t (omega arith) (q ∙ ap (λ (x : Site). var x.output) e)
-apart_from s (u ∷ sites) h t (Memᴰ.tail i) = apart_from s sites (λ j d k. h (suc j) d (omega arith)) t i
 
 one_kept : (row : List ℤ) (v : ℕ) (sites : List Site) → Apart sites → (s : Site) → Memᴰ s sites → var s.output ≡ v → filter (λ g. eqb g.output v && true) (gates_of row sites) ≡ gate_of row s ∷ []
 unfolding gate_of

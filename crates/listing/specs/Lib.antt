@@ -1,4 +1,3 @@
 -- What the code of the listing has of its own.
 pub mod Fields
-pub mod Apart
 pub mod Chains

@@ -2,7 +2,7 @@
 ghost use Rattle.std.specs.Prelude.{◌+◌, ◌≤◌, length};
 ghost use Rattle.std.specs.List.{All};
 ghost use Rattle.tables.specs.Literal.{literal, var};
-ghost use Rattle.listing.specs.Apart.{Apart};
+ghost use Rattle.filling.specs.Outputs.{Apart, Speaking};
 
 use gates::taken::Taken;
 
@@ -25,4 +25,5 @@ pub struct Evening<'a> {
     ghost inside: { All (λ e. var (literal e) ≤ n) taken.row.now },
     ghost outputs: { All (λ s. var s.output ≤ n) taken.sites.now },
     ghost apart: { Apart taken.sites.now },
+    ghost speaking: { Speaking taken.row.now taken.sites.now },
 }

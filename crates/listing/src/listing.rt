@@ -79,7 +79,7 @@ fn put_line_b(laying: &mut Laying, survey: &Survey)
         count_linked(stands, n),
         taken.sites.len(),
         count_free(survey),
-        count_residue(&taken),
+        count_residue(survey),
     ];
     put_numbers(laying, b"B", &counts);
 }
@@ -96,7 +96,7 @@ fn put_lines(laying: &mut Laying, survey: &Survey)
     put_lines_l(laying, evening.stands, evening.n);
     put_lines_g(laying, survey);
     put_lines_v(laying, survey);
-    put_lines_r(laying, &evening.taken);
+    put_lines_r(laying, survey);
 }
 
 /// Lays the listing of an evening over the front of a buffer: how many bytes it has.

@@ -7,7 +7,7 @@ use Rattle.rules.specs.Rounds.{outcome, pinned}
 use Rattle.rounds.proofs.SettleSteps.{few_variables}
 use Rattle.rounds.proofs.Outcomes.{accepted_outcome, refused_verdict}
 use Rattle.rules.specs.Taking.{taken}
-use Rattle.builder.proofs.Evenings.{left_proper, rounds_low, stands_inside, row_inside, sites_inside, sites_apart}
+use Rattle.builder.proofs.Evenings.{left_proper, rounds_low, stands_inside, row_inside, sites_inside, sites_apart, sites_speak}
 use Rattle.builder.proofs.evening.settle_evening.Goals as goal
 
 pub returns-in_err-settled : goal.returns-in_err-settled
@@ -55,4 +55,5 @@ invariant_of-result c =
       inside = row_inside c.args.n c.args.table.now c.args.pins.now c.requires.table c.requires.pins _ _ _ w.0 c.take_gates.result.row.now (ap clauses row) (rw row w.1);
       outputs = sites_inside c.args.n c.args.table.now c.args.pins.now c.requires.table c.requires.pins _ _ _ w.0 c.split_at.result.0.now c.take_gates.result.sites.now gates;
       apart = sites_apart c.args.n c.args.table.now c.args.pins.now c.requires.table c.requires.pins _ _ _ w.0 c.split_at.result.0.now c.take_gates.result.sites.now gates;
+      speaking = rw c.take_gates.ensures.row (sites_speak c.args.n c.args.table.now c.args.pins.now c.requires.table c.requires.pins _ _ _ w.0 c.split_at.result.0.now c.take_gates.result.sites.now gates);
     }

@@ -10,5 +10,5 @@ use Rattle.listing.proofs.clause_lines.put_lines_r.Given as goal
 
 abbrev pub invariant-loop-clause : goal.invariant-loop-clause
 invariant-loop-clause l =
-    lay (laid l.fn.laying) (flat_map line_r (residue (gates_in l.taken) (clauses l.taken.row.now)))
-    ≡ lay (laid l.laying) (flat_map line_r (residue (gates_in l.taken) (clauses l.clause-iterator.rest.now)))
+    lay (laid l.fn.laying) (flat_map line_r (residue (gates_in l.survey.evening.taken) (clauses l.survey.evening.taken.row.now)))
+    ≡ lay (laid l.laying) (flat_map line_r (residue (gates_in l.survey.evening.taken) (clauses l.clause-iterator.rest.now)))
