@@ -4,7 +4,7 @@ use Rattle.ways.specs.Ways.{same}
 use Rattle.tables.specs.Literal.{literal}
 use Rattle.chains.specs.Key.{key}
 use Rattle.chains.specs.Links.{clause_at}
-use Rattle.chains.proofs.Walks.{Walk, walk_begins, stop, walk_finds, walk_turns, walk_ends}
+use Rattle.chains.proofs.Walks.{Walk, walk_begins, stop, walk_turns, walk_ends}
 use Rattle.chains.proofs.chain.is_chained.Goals as goal
 
 pub loop-cell-init : goal.loop-cell-init
