@@ -15,7 +15,7 @@ const USAGE: &str = "usage: cases test | long SEED COUNT | files FOLDER
   | time FOLDER [--instructions]";
 
 /// How many seeds the fixed comparison takes.
-const COMPARED: u64 = 1_024;
+const COMPARED: u64 = 512;
 
 fn main() -> ExitCode {
     let given: Vec<String> = env::args().skip(1).collect();

@@ -19,9 +19,14 @@ enum Twist {
     Books,
     PinWork,
     Freed,
+    Listing,
+    BuildWork,
+    FillValue,
+    AskValue,
+    Printed,
 }
 
-const TWISTS: [Twist; 12] = [
+const TWISTS: [Twist; 17] = [
     Twist::CheckPlace,
     Twist::Stretch,
     Twist::ReadBehind,
@@ -34,6 +39,11 @@ const TWISTS: [Twist; 12] = [
     Twist::Books,
     Twist::PinWork,
     Twist::Freed,
+    Twist::Listing,
+    Twist::BuildWork,
+    Twist::FillValue,
+    Twist::AskValue,
+    Twist::Printed,
 ];
 
 struct Twisted(Twist);
@@ -53,7 +63,7 @@ impl Builder for Twisted {
     }
 
     fn has(&self, call: Call) -> bool {
-        Proved.has(call)
+        call != Call::Run && Proved.has(call)
     }
 
     fn check(&self, n: u32, table: &[i32]) -> Numbers {
@@ -94,15 +104,29 @@ impl Builder for Twisted {
     }
 
     fn build(&self, n: u32, table: &[i32], work: &mut [i32], book: &Book, bytes: &mut [u8]) -> Numbers {
-        Proved.build(n, table, work, book, bytes)
+        let numbers = Proved.build(n, table, work, book, bytes);
+        if numbers.is_accepted() {
+            self.spoil(Twist::Listing, bytes, numbers.second - 1, b' ');
+        }
+        self.spoil(Twist::BuildWork, work, 16_383, 1);
+        numbers
     }
 
     fn fill(&self, n: u32, table: &[i32], work: &mut [i32], book: &Book, values: &[u8], result: &mut [u8]) -> Numbers {
-        Proved.fill(n, table, work, book, values, result)
+        let numbers = Proved.fill(n, table, work, book, values, result);
+        if numbers.is_accepted() && n > 0 {
+            let value = 1 - result[0];
+            self.spoil(Twist::FillValue, result, 0, value);
+        }
+        numbers
     }
 
     fn ask(&self, n: u32, table: &[i32], work: &mut [i32], book: &Book, values: &[u8], variable: u32) -> Numbers {
-        Proved.ask(n, table, work, book, values, variable)
+        let mut numbers = Proved.ask(n, table, work, book, values, variable);
+        if self.0 == Twist::AskValue && numbers.is_accepted() {
+            numbers.first = 1 - numbers.first;
+        }
+        numbers
     }
 
     fn pin(&self, n: u32, table: &[i32], work: &mut [i32], book: &mut Book, new: i32) -> Numbers {
@@ -125,7 +149,9 @@ impl Builder for Twisted {
     }
 
     fn program(&self, text: &[u8]) -> Vec<u8> {
-        Proved.program(text)
+        let mut printed = Proved.program(text);
+        self.spoil(Twist::Printed, &mut printed, 0, b'Y');
+        printed
     }
 }
 
