@@ -110,11 +110,12 @@ impl Chains<'_> {
         is_chained(clause, chained, self.heads, self.links) || is_one_of(clause, others)
     }
 
-    /// Chains a clause that is written behind the row, with a zero behind it.
+    /// Chains a clause that is written behind the row, with a zero behind it, if the whole row is chained and there is room.
     pub fn add(&mut self, row: &[i32], clause: &[i32])
         requires follows { Follows row.now self.old }
         requires whole { has 0 (map literal clause.now) ≡ false }
-        ensures { Follows (row.now ++ (clause.now ++ (pos 0 ∷ []))) self.new }
+        ensures follows { Follows (row.now ++ (clause.now ++ (pos 0 ∷ []))) self.new }
+        ensures covers { self.old.covered ≡ length row.now → length row.now < length self.old.links.now → self.new.covered ≡ length row.now + length clause.now + 1 }
     {
         let start = row.len();
         if self.covered == start && start < self.links.len() {

@@ -59,7 +59,7 @@ returns-clause-chained c =
     let front = c.split_at_mut-front.result.0.now in
     let f : c.split_at.result.0.now ≡ take c.tidy-len.result c.tidy-len.new.row = c.split_at.ensures.front in
     subst (λ zs. Follows zs c.add.new.self) (ap (λ ys. front ++ (ys ++ (pos 0 ∷ []))) f ∙ sym (closed front c.tidy-len.new.row c.tidy-len.result _ (omega arith) (omega arith)))
-    c.add.ensures
+    c.add.ensures.follows
 
 pub returns-clause-cleaned : goal.returns-clause-cleaned
 returns-clause-cleaned c =

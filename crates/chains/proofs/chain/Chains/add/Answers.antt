@@ -3,8 +3,8 @@ use Rattle.std.proofs.Common.{◌≡◌, ◌<◌, refl, length, rules, arith}
 use Rattle.chains.proofs.Growing.{covers_more}
 use Rattle.chains.proofs.chain.Chains.add.Goals as goal
 
-pub returns-then-start-self : goal.returns-then-start-self
-returns-then-start-self c =
+pub returns-then-start-self-clause-follows : goal.returns-then-start-self-clause-follows
+returns-then-start-self-clause-follows c =
     let self = c.args.self.now in
     let k : c.key_of.result < length self.heads.now = let h = self.keys in let l = c.key_of.ensures.within in omega arith in
     let e : self.covered ≡ length c.args.row.now = search rules in
