@@ -11,17 +11,17 @@ use Rattle.ways.proofs.Members.{get_or-mem}
 use Rattle.tables.specs.Literal.{literal}
 use Rattle.tables.specs.Clause.{clauses}
 use Rattle.rules.specs.Patterns.{Gate, and_form, parity, anchors, found}
-use Rattle.rules.specs.Taking.{is_output, allowed, candidates}
+use Rattle.rules.specs.Taking.{candidates}
 use Rattle.circuits.proofs.Taken.{Valid, candidate_valid}
 use Rattle.gates.specs.declared.site.Site.{Site}
-use Rattle.gates.specs.Sites.{gate_of, gates_of}
+use Rattle.gates.specs.Sites.{gate_of}
 use Rattle.gates.proofs.SiteLaws.{group_at, form_at}
 use Rattle.taking.specs.Settled.{IsSettled}
 use Rattle.taking.specs.declared.anchor.Anchor.{Anchor}
 use Rattle.taking.specs.declared.offer.Taking.{Taking}
 use Rattle.taking.specs.Anchors.{literals, IsClause, groups, group_site, form_site}
-use Rattle.taking.specs.Offered.{Offered, row, table, gates}
-use Rattle.taking.proofs.Offers.{offered_none, offered_more, offered_done, one_passed}
+use Rattle.taking.specs.Offered.{Offered, row, table}
+use Rattle.taking.proofs.Offers.{offered_none, offered_more, offered_done}
 
 -- A literal of an anchor.
 pub literal_in : (row : List ℤ) (a : Anchor) (entries : List ℤ) (i o : ℕ) → entries ≡ slice_range row a.start a.end → i < length entries → o ≡ literal (get_or entries i (pos 0)) → Memᴰ o (literals row a)
@@ -49,15 +49,6 @@ not_found t g e = go (found (table t) g) e
   where
     go : (b : Bool) → b ≡ false → Offered t t false (cond b (g ∷ []) [])
     go b e = rw (e) (offered_none t)
-
--- A gate whose output is one already is not allowed.
-pub output_taken : (t : Taking) (g : Gate) (v : ℕ) → g.output ≡ v → is_output (gates t) v ≡ true → Offered t t false (filter (found (table t)) (g ∷ []))
-unfolding allowed
-output_taken t g v q e = go (found (table t) g)
-  where
-    go : (b : Bool) → Offered t t false (cond b (g ∷ []) [])
-    go true = one_passed g t (rw (q, e) refl)
-    go false = offered_none t
 
 -- The candidates of one form, with the outputs of the anchor's entries before a place.
 module _ (p : Gate → Bool) (f : ℕ → Gate) (entries : List ℤ) where
@@ -120,9 +111,6 @@ form_here cs row a entries o b e q = rw (← e) (sym q)
 pub form_offered : (t u : Taking) (b : Bool) (a : Anchor) (o : ℕ) (s : Site) → s ≡ form_site a o → found (table t) (and_form (literals (row t) a) o) ≡ true
     → Offered t u b (gate_of (row t) s ∷ []) → Offered t u b (filter (found (table t)) (and_form (literals (row t) a) o ∷ []))
 form_offered t u b a o s e f p = found_offered t u b (and_form (literals (row t) a) o) f (subst (λ g. Offered t u b (g ∷ [])) (ap (gate_of (row t)) e ∙ form_at (row t) a.start a.end o) p)
-
-pub output_is : (row : List ℤ) (xs ys : List Site) (v w : ℕ) → xs ≡ ys → v ≡ w → is_output (gates_of row xs) v ≡ true → is_output (gates_of row ys) w ≡ true
-output_is row xs ys v w e q t = rw (← e, ← q) t
 
 -- The anchor is its group's first clause, and the group is found.
 abbrev pub Whole : List ℤ → Anchor → Type 0

@@ -9,10 +9,9 @@ ghost use Rattle.taking.specs.Offered.{Offered, row, table, gates, may};
 
 use crate::anchor::Anchor;
 use crate::offer::Taking;
-use gates::outputs::is_output;
 use patterns::andform::and_form_found;
 use patterns::parity::parity_found;
-use tables::literal::{literal, var};
+use tables::literal::literal;
 
 /// The least width of an anchor.
 const LEAST_WIDTH: usize = 3;
@@ -43,10 +42,6 @@ impl Taking<'_, '_> {
         requires output { Memᴰ output (literals (row self.old) anchor) }
         ensures { Offered self.old self.new result (filter (found (table self.old)) (and_form (literals (row self.old) anchor) output ∷ [])) }
     {
-        // The cheap test first: no pattern is searched for an output that is taken.
-        if is_output(self.taken(), var(output)) {
-            return false;
-        }
         let index = self.index;
         if !and_form_found(&index, anchor.entries(index.row), output) {
             return false;

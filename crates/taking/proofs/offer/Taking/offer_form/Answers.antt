@@ -1,20 +1,12 @@
--- The output is one already, the form is not found, or it is offered.
-use Rattle.std.proofs.Common.{◌∙◌, refl, sym, subst, take, true, false}
-use Rattle.tables.specs.Literal.{var}
+-- The form is not found, or it is offered.
+use Rattle.std.proofs.Common.{◌∙◌, sym, subst, true, false}
 use Rattle.rules.specs.Patterns.{and_form}
 use Rattle.circuits.proofs.Taken.{Valid}
 use Rattle.gates.specs.Sites.{gate_of}
 use Rattle.taking.specs.Anchors.{literals}
 use Rattle.taking.specs.Offered.{row, table}
-use Rattle.taking.proofs.Walk.{form_here, form_valid, form_offered, output_is, output_taken, not_found}
+use Rattle.taking.proofs.Walk.{form_here, form_valid, form_offered, not_found}
 use Rattle.taking.proofs.offer.Taking.offer_form.Goals as goal
-
-pub returns-then-is_output : goal.returns-then-is_output
-unfolding and_form
-returns-then-is_output c =
-    let t = c.args.self.now in
-    output_taken t (and_form (literals (row t) c.args.anchor) c.args.output) (var c.args.output) refl
-    (output_is (row t) c.taken.result.now (take t.count t.sites.now) _ (var c.args.output) c.taken.ensures c.var.ensures (sym (c.is_output.ensures (row t)) ∙ c.if-is_output.true))
 
 pub returns-then-not-and_form_found : goal.returns-then-not-and_form_found
 returns-then-not-and_form_found c =
