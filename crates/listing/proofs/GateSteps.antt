@@ -1,18 +1,18 @@
 -- The lines of gates, step by step.
-use Rattle.std.proofs.Common.{◌+◌, ◌-◌, ◌≡◌, ◌∙◌, refl, sym, ap, ℕ, suc, ◌<◌, ◌&&◌, Bool, true, false, cond, not, eqb, ℤ, List, [], ◌∷◌, ◌++◌, map, filter, length, get_or, arith, append-nil, eq-eqb, ne_eqb, slice_range}
+use Rattle.std.proofs.Common.{◌+◌, ◌-◌, ◌≡◌, ◌∙◌, refl, sym, ap, ℕ, suc, ◌&&◌, Bool, true, false, eqb, ℤ, List, [], ◌∷◌, map, filter, length, get_or, arith, append-nil, eq-eqb, ne_eqb}
 use mathlib.Core.List.Memᴰ
 use mathlib.Core.List.{Memᴰ}
 use Rattle.std.specs.List.{flat_map, range_with_len}
 use Rattle.std.proofs.lemmas.Bool.{eqb-false}
 use Rattle.std.proofs.lemmas.List.{length-map}
-use Rattle.tables.specs.Literal.{literal, var}
-use Rattle.rules.specs.Patterns.{Gate, others}
+use Rattle.tables.specs.Literal.{var}
+use Rattle.rules.specs.Patterns.{Gate}
 use Rattle.rules.specs.Circuit.{levels}
 use Rattle.rules.specs.Listing.{input_field, line_g, gates_at, lines_g}
 use Rattle.texts.specs.Laying.{Laid, lay}
 use Rattle.gates.specs.declared.site.Site.{Site}
-use Rattle.gates.specs.Sites.{entries_of, gate_of, gates_of}
-use Rattle.gates.specs.Inputs.{input, inputs}
+use Rattle.gates.specs.Sites.{gate_of, gates_of}
+use Rattle.gates.specs.Inputs.{inputs}
 use Rattle.gates.proofs.SiteLaws.{output_at}
 use Rattle.gates.proofs.SiteGates.{inputs_are}
 use Rattle.texts.proofs.LaySteps.{laid_none, laid_behind}
@@ -22,26 +22,17 @@ use Rattle.listing.specs.Chains.{on_level}
 use Rattle.listing.proofs.ChainSteps.{left, Behind, only_these}
 use Rattle.listing.specs.Fields.{field, fields}
 
--- The field of the input that stands for a literal of the anchor: none for the output's.
-abbrev pub other_field : ℕ → Site → ℤ → List ℕ
-other_field kind site e = cond (not (eqb (literal e) site.output)) (field (input_field kind (input site (literal e)))) []
+-- The fields of a gate's inputs, one after another.
+pub inputs_begin : (kind : ℕ) (row : List ℤ) (site : Site) (s : Laid) (left : List ℕ) → left ≡ inputs row site
+    → lay s (fields (map (input_field kind) (gate_of row site).inputs)) ≡ lay s (fields (map (input_field kind) left))
+inputs_begin kind row site s left e = rw (inputs_are row site, e) refl
 
-fields_of : (kind : ℕ) (site : Site) (b : Bool) (x : ℕ) (xs : List ℕ) (zs : List ℕ) → fields (map (input_field kind) (map (input site) xs)) ≡ zs
-    → fields (map (input_field kind) (map (input site) (cond b (x ∷ xs) xs))) ≡ cond b (field (input_field kind (input site x))) [] ++ zs
-fields_of kind site true x xs zs e = ap (λ ys. field (input_field kind (input site x)) ++ ys) e
-fields_of kind site false x xs zs e = e
+pub input_on : (kind x : ℕ) (s : Laid) (left xs : List ℕ) → left ≡ x ∷ xs
+    → lay s (fields (map (input_field kind) left)) ≡ lay (lay s (field (input_field kind x))) (fields (map (input_field kind) xs))
+input_on kind x s left xs e = rw (e) (sym (laid_behind s (field (input_field kind x)) (fields (map (input_field kind) xs))))
 
-others_fields : (kind : ℕ) (site : Site) (es : List ℤ)
-    → fields (map (input_field kind) (map (input site) (others site.output (map literal es)))) ≡ flat_map (other_field kind site) es
-unfolding others
-others_fields kind site [] = refl
-others_fields kind site (e ∷ es) =
-    fields_of kind site (not (eqb (literal e) site.output)) (literal e) (others site.output (map literal es)) (flat_map (other_field kind site) es) (others_fields kind site es)
-
-pub inputs_fields : (kind : ℕ) (row : List ℤ) (site : Site) (es : List ℤ) → es ≡ slice_range row site.start site.end
-    → fields (map (input_field kind) (gate_of row site).inputs) ≡ flat_map (other_field kind site) es
-unfolding inputs
-inputs_fields kind row site es e = rw (inputs_are row site, e) (others_fields kind site (entries_of row site))
+pub input_ends : (kind : ℕ) (s : Laid) (left : List ℕ) → left ≡ [] → lay s (fields (map (input_field kind) left)) ≡ s
+input_ends kind s left e = rw (e) (laid_none s)
 
 -- Of gates with different outputs, those with one of them.
 none_kept : (row : List ℤ) (v : ℕ) (b : Bool) (sites : List Site) → ((s : Site) → Memᴰ s sites → v ≡ var s.output → ⊥) → filter (λ g. eqb g.output v && b) (gates_of row sites) ≡ []

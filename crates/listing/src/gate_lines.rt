@@ -1,12 +1,11 @@
 // The G lines: level after level, and on each the gates by rising output.
-ghost use Rattle.std.specs.Prelude.{◌≡◌, ◌<◌, ◌≤◌, cond, not, eqb, [], map, get_or, codes};
+ghost use Rattle.std.specs.Prelude.{◌≡◌, ◌<◌, ◌≤◌, map, get_or, codes};
 ghost use Rattle.std.specs.List.{flat_map, range_with_len};
 ghost use Rattle.rules.specs.Kinds.{kind_row};
 ghost use Rattle.rules.specs.Circuit.{levels};
 ghost use Rattle.rules.specs.Listing.{input_field, line_g, gates_at, lines_g};
 ghost use Rattle.texts.specs.Laying.{laid, lay};
 ghost use Rattle.gates.specs.Sites.{Within, gate_of};
-ghost use Rattle.gates.specs.Inputs.{input};
 ghost use Rattle.gates.specs.TakenGates.{gates_in};
 ghost use Rattle.listing.specs.Fields.{field, fields};
 
@@ -14,11 +13,10 @@ use crate::chains::place_of;
 use crate::fields::{put_number_field, put_signed_field};
 use crate::survey::Survey;
 use filling::places::gate_for;
-use gates::inputs::input;
 use gates::kinds::kind_row;
 use gates::site::Site;
 use gates::value::site_kind;
-use tables::literal::{literal, var};
+use tables::literal::var;
 use texts::pieces::Laying;
 
 /// Lays an input of a gate: with its sign, where the inputs of the kind carry signs.
@@ -34,25 +32,15 @@ fn put_input_field(laying: &mut Laying, kind: u8, input: usize)
     }
 }
 
-/// Lays the input that stands for a literal of the anchor: none for the output's.
-#[tactic(auto, using(texts::proofs::LaySteps::laid_none))]
-fn put_other(laying: &mut Laying, kind: u8, site: Site, other: usize)
-    requires { kind < 8 }
-    ensures { laid laying.new ≡ lay (laid laying.old) (cond (not (eqb other site.output)) (field (input_field kind (input site other))) []) }
-{
-    if other != site.output {
-        put_input_field(laying, kind, input(site, other));
-    }
-}
-
 /// Lays the inputs of a gate.
+#[tactic(auto, using(crate::proofs::GateSteps::input_on, crate::proofs::GateSteps::input_ends))]
 fn put_inputs(laying: &mut Laying, kind: u8, row: &[i32], site: Site)
     requires kind { kind < 8 }
     requires within { Within row.now site }
     ensures { laid laying.new ≡ lay (laid laying.old) (fields (map (input_field kind) (gate_of row.now site).inputs)) }
 {
-    for &entry in site.anchor(row) {
-        put_other(laying, kind, site, literal(entry));
+    for input in site.inputs(row) {
+        put_input_field(laying, kind, input);
     }
 }
 

@@ -1,17 +1,11 @@
--- One literal of the anchor more.
-use Rattle.std.proofs.Common.{◌∙◌, sym, ap, pos, rules}
-use Rattle.texts.specs.Laying.{laid, lay}
-use Rattle.listing.proofs.Walks.{row_on, row_ends}
-use Rattle.listing.proofs.GateSteps.{other_field, inputs_fields}
+-- At first all inputs are left.
+use Rattle.std.proofs.Common.{◌∙◌, ap}
+use Rattle.texts.specs.Laying.{laid}
+use Rattle.gates.specs.Inputs.{to_come}
+use Rattle.listing.proofs.GateSteps.{inputs_begin}
 use Rattle.listing.proofs.gate_lines.put_inputs.Goals as goal
 
-pub loop-entry-init : goal.loop-entry-init
-loop-entry-init c = ap (lay (laid c.args.laying.now)) (inputs_fields c.args.kind c.args.row.now c.args.site _ c.anchor-entry-items.ensures)
-
-pub loop-entry-preserved : goal.loop-entry-preserved
-loop-entry-preserved c =
-    c.loop-entry.invariant
-    ∙ row_on (other_field c.args.kind c.args.site) _ _ c.anchor-entry-items.result.now c.loop-entry.entry-index (pos 0) c.loop-entry-test.true (search rules)
-
-pub returns : goal.returns
-returns c = sym (c.loop-entry.invariant ∙ row_ends (other_field c.args.kind c.args.site) _ c.anchor-entry-items.result.now c.loop-entry.entry-index c.loop-entry-test.false)
+pub loop-input-init : goal.loop-input-init
+loop-input-init c =
+    inputs_begin c.args.kind c.args.row.now c.args.site (laid c.args.laying.now) (to_come c.into_iter-input-iterator.result)
+    (ap to_come c.into_iter-input-iterator.ensures.into_iter_gives ∙ c.inputs-input-items.ensures)
