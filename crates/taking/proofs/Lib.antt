@@ -1,6 +1,7 @@
 -- Lemmas of the taking of gates.
 pub mod PlaceSteps
 pub mod Placed
+pub mod Behind
 pub mod Room
 pub mod TakeSteps
 pub mod Offers

@@ -6,4 +6,5 @@ pub mod candidates;
 pub mod depends;
 pub mod offer;
 pub mod place;
+pub mod put;
 pub mod take;

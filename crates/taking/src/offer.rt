@@ -8,7 +8,7 @@ ghost use Rattle.gates.specs.Sites.{Within, gates_of};
 ghost use Rattle.taking.specs.Settled.{IsSettled};
 
 use crate::depends::{dependents, is_touched};
-use crate::place::place;
+use crate::put::put;
 use gates::outputs::is_output;
 use gates::site::Site;
 use patterns::index::Index;
@@ -94,7 +94,7 @@ impl<'a, 'i> Taking<'a, 'i> {
         if !self.is_allowed(site, marks) {
             return false;
         }
-        place(self.sites, self.count, site, marks);
+        put(self.sites, self.count, site, marks);
         self.count += 1;
         true
     }

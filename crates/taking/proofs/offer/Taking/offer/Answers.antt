@@ -12,8 +12,8 @@ returns-then-not-is_allowed c =
     let t = c.args.self.now in
     one_passed (gate_of (row t) c.args.site) t (sym c.is_allowed.ensures.is ∙ c.if-not-is_allowed.true)
 
-pub place-requires-clause-room : goal.place-requires-clause-room
-place-requires-clause-room c =
+pub put-requires-clause-room : goal.put-requires-clause-room
+put-requires-clause-room c =
     let t = c.args.self.now in
     omega (arith, next_fits t (gate_of (row t) c.args.site) c.requires.valid (sym c.is_allowed.ensures.is ∙ c.if-not-is_allowed.false))
 
@@ -25,15 +25,15 @@ invariant_of-self-clause-few c =
 pub invariant_of-self-clause-within : goal.invariant_of-self-clause-within
 invariant_of-self-clause-within c =
     let t = c.args.self.now in
-    subst (All (Within (row t))) (sym c.place.ensures.parts) (all_placed (Within (row t)) c.is_allowed.new.marks (take t.count t.sites.now) c.args.site t.within c.requires.within)
+    subst (All (Within (row t))) (sym c.put.ensures.parts) (all_placed (Within (row t)) c.is_allowed.new.marks (take t.count t.sites.now) c.args.site t.within c.requires.within)
 
 pub invariant_of-self-clause-taken : goal.invariant_of-self-clause-taken
 invariant_of-self-clause-taken c =
     let t = c.args.self.now in
     still_taken t.n (table t) (gates t) _ (gate_of (row t) c.args.site) t.taken c.requires.valid (sym c.is_allowed.ensures.is ∙ c.if-not-is_allowed.false)
-    (c.place.ensures.order (row t) t.n c.if-not-is_allowed.ensures.walked)
+    (c.put.ensures.order (row t) t.n c.if-not-is_allowed.ensures.walked)
 
 pub returns : goal.returns
 returns c =
     let t = c.args.self.now in
-    one_taken (gate_of (row t) c.args.site) t _ refl refl (sym c.is_allowed.ensures.is ∙ c.if-not-is_allowed.false) (c.place.ensures.order (row t) t.n c.if-not-is_allowed.ensures.walked)
+    one_taken (gate_of (row t) c.args.site) t _ refl refl (sym c.is_allowed.ensures.is ∙ c.if-not-is_allowed.false) (c.put.ensures.order (row t) t.n c.if-not-is_allowed.ensures.walked)
