@@ -3,9 +3,9 @@ ghost use Rattle.std.specs.Prelude.{◌≡◌};
 ghost use Rattle.rules.specs.Pins.{take_back, book_after};
 ghost use Rattle.book.specs.Answers.{answered};
 
+use calls::opening::book_length;
 use rules::book::Book;
 use tables::numbers::Refusal;
-use tables::sizes::MOST_PINS;
 
 /// The book without its last pin; the freed place is 0.
 #[tactic(auto, unfolding(rules::specs::Pins::take_back, rules::specs::Pins::without_last, rules::specs::Pins::book_long, tables::specs::Numbers::refuse, tables::specs::Numbers::first_refusal))]
@@ -15,9 +15,7 @@ pub fn without_last_pin(book: Book) -> Result<Book, Refusal>
     if book.held == 0 {
         return Err(Refusal::NothingHeld);
     }
-    if book.held > MOST_PINS {
-        return Err(Refusal::BookFull);
-    }
+    book_length(&book)?;
     let mut left = book;
     left.held -= 1;
     left.pins[left.held] = 0;

@@ -43,7 +43,6 @@ fn fill_evening(evening: &Evening, given: &[u8], values: &mut [u8]) -> Result<()
 }
 
 /// The fill, with the work buffer left as it comes.
-
 fn filled_in(
     n: usize,
     table: &[i32],

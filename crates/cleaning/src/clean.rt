@@ -10,7 +10,6 @@ ghost use Rattle.cleaning.specs.Neighbours.{opposed_from};
 ghost use Rattle.chains.specs.Ended.{Ended};
 ghost use Rattle.chains.specs.Follow.{Follows};
 
-use crate::earlier::is_among;
 use crate::tidy::tidy;
 use chains::chain::Chains;
 use chains::key::KEYS;
@@ -48,7 +47,7 @@ fn is_needless(clause: &[i32], row: &[i32], chains: &Chains) -> bool
     requires { Follows row.now chains.now }
     ensures { result ≡ (opposed_from 0 (map literal clause.now) || among (map literal clause.now) (clauses row.now)) }
 {
-    is_opposed(clause) || is_among(clause, row, chains)
+    is_opposed(clause) || chains.has(clause, row)
 }
 
 /// Cleans the clause of the entries from `start` up to `end`, where its zero is, and writes it behind the first `kept`

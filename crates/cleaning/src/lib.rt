@@ -2,5 +2,4 @@
 #![tactic(auto)]
 
 pub mod clean;
-pub mod earlier;
 pub mod tidy;

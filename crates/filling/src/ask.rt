@@ -15,11 +15,8 @@ use gates::taken::Taken;
 use gates::value::{rule_of, site_kind};
 use rules::standing::stands_for;
 use tables::literal::{is_negative, var};
-use tables::sizes::MOST_VARIABLES;
+use tables::sizes::{MOST_VARIABLES, VARIABLE_NUMBERS};
 use tables::values::is_set;
-
-/// A place for each variable, and one for none.
-const ROOM: usize = MOST_VARIABLES + 1;
 
 /// Gates in an order of evaluation, and values for the variables that are no outputs.
 #[derive(Clone, Copy)]
@@ -103,9 +100,9 @@ pub fn ask(circuit: &Circuit, stands: &[u16], variable: usize) -> bool
     requires outputs { All (λ site. var site.output ≤ MOST_VARIABLES) circuit.now.taken.sites.now }
     ensures { result ≡ asked stands.now (gates_in circuit.now.taken) circuit.now.given.now variable }
 {
-    let mut places = [0; ROOM];
+    let mut places = [0; VARIABLE_NUMBERS];
     place_all(circuit.taken.sites, &mut places);
-    let mut memo = [None; ROOM];
+    let mut memo = [None; VARIABLE_NUMBERS];
     let literal = stands_for(stands, variable);
     variable_value(circuit, &places, &mut memo, var(literal)) != is_negative(literal)
 }

@@ -20,7 +20,7 @@ pub fn place_all(sites: &[Site], places: &mut [u16])
 }
 
 /// A variable's place in the row, or 0.
-fn place_of(places: &[u16], variable: usize) -> usize
+pub fn place_of(places: &[u16], variable: usize) -> usize
     ensures { result ≡ get_or places.now variable 0 }
 {
     match places.get(variable) {

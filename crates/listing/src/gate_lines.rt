@@ -9,10 +9,9 @@ ghost use Rattle.gates.specs.Sites.{Within, gate_of};
 ghost use Rattle.gates.specs.TakenGates.{gates_in};
 ghost use Rattle.listing.specs.Fields.{field, fields};
 
-use crate::chains::place_of;
 use crate::fields::{put_number_field, put_signed_field};
 use crate::survey::Survey;
-use filling::places::gate_for;
+use filling::places::{gate_for, place_of};
 use gates::kinds::kind_row;
 use gates::site::Site;
 use gates::value::site_kind;

@@ -23,26 +23,23 @@ use crate::variables::{
 use filling::levels::levels;
 use filling::places::place_all;
 use gates::outputs::mark_outputs;
-use tables::sizes::MOST_VARIABLES;
+use tables::sizes::VARIABLE_NUMBERS;
 use texts::pieces::Laying;
 
-/// A place for each variable, and one for none.
-const ROOM: usize = MOST_VARIABLES + 1;
-
 /// Which variables are outputs.
-fn outputs_of(evening: &Evening) -> [u8; ROOM]
+fn outputs_of(evening: &Evening) -> [u8; VARIABLE_NUMBERS]
     ensures { (v : ℕ) → marked result v ≡ is_output (gates_in evening.now.taken) v }
 {
-    let mut outputs = [0; ROOM];
+    let mut outputs = [0; VARIABLE_NUMBERS];
     mark_outputs(evening.taken.sites, &mut outputs);
     outputs
 }
 
 /// Of which gate each variable is the output.
-fn places_of(evening: &Evening) -> [u16; ROOM]
+fn places_of(evening: &Evening) -> [u16; VARIABLE_NUMBERS]
     ensures { IsPlaced evening.now.taken.sites.now result }
 {
-    let mut places = [0; ROOM];
+    let mut places = [0; VARIABLE_NUMBERS];
     place_all(evening.taken.sites, &mut places);
     places
 }
@@ -54,7 +51,7 @@ fn chain_levels(evening: &Evening, firsts: &mut [u16], nexts: &mut [u16])
     ensures { let e = evening.now in
         Chained e.n (Circuit.levels e.n (gates_in e.taken)) firsts.new nexts.new }
 {
-    let mut room = [0; ROOM];
+    let mut room = [0; VARIABLE_NUMBERS];
     let by_variable = &mut room[..=evening.n];
     levels(&evening.taken, by_variable);
     chain(by_variable, evening.n, firsts, nexts);
@@ -108,8 +105,8 @@ pub fn put_listing(out: &mut [u8], evening: &Evening) -> usize
 {
     let outputs = outputs_of(evening);
     let places = places_of(evening);
-    let mut firsts = [0; ROOM];
-    let mut nexts = [0; ROOM];
+    let mut firsts = [0; VARIABLE_NUMBERS];
+    let mut nexts = [0; VARIABLE_NUMBERS];
     chain_levels(evening, &mut firsts, &mut nexts);
     let survey = Survey {
         evening: *evening,
