@@ -5,7 +5,7 @@
 //! call that only one of the two has is left out.
 
 use crate::builder::{Book, Builder, Call, Numbers, Proved, Second};
-use crate::case::{text_of, Start};
+use crate::case::{text_of, Case, Start};
 use crate::yards::{self, Order, Yard};
 use std::hint::black_box;
 use std::process::Command;
@@ -56,7 +56,12 @@ fn inputs(texts: Vec<(String, Vec<u8>)>) -> Vec<Input> {
     files.sort_by_key(|input| std::cmp::Reverse(input.table.len()));
     files.truncate(FILES);
     let yards = worst().into_iter().filter_map(|yard| match yard.case.start {
-        Start::Table { n, table } => Some(Input::of_table(&yard.case.family, n, table)),
+        Start::Table { n, table } => {
+            let Case { family, seed, .. } = yard.case;
+            // A planted yard is told by its seed alone.
+            let name = if family == "planted" { format!("{family} {seed}") } else { family };
+            Some(Input::of_table(&name, n, table))
+        }
         Start::Text(_) => None,
     });
     files.into_iter().chain(yards).collect()
