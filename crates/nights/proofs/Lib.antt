@@ -1,0 +1,2 @@
+-- The book of a run.
+pub mod Books

@@ -1,0 +1,2 @@
+-- A move of the code as one of the demands.
+pub mod Moves
