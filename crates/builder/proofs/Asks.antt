@@ -1,14 +1,5 @@
 -- What an ask needs of an evening's gates.
-use Rattle.std.proofs.Common.{◌≡◌, sym, ap, subst, ℕ, ◌<◌, ◌≤◌, List, length, get_or, map, arith}
-use mathlib.Core.List.Memᴰ
-use mathlib.Core.List.{Memᴰ}
-use Rattle.std.specs.List.{All}
-use Rattle.ways.proofs.Members.{get_or-mem}
-use Rattle.tables.specs.Literal.{var}
-use Rattle.gates.specs.Sites.{gate_of}
-use Rattle.gates.specs.TakenGates.{gates_in}
-use Rattle.gates.specs.declared.site.Site.{Site}
-use Rattle.gates.proofs.SiteLaws.{output_at}
+use Rattle.std.proofs.Common.{◌≡◌, ◌≤◌, length, arith}
 use Rattle.filling.specs.Asking.{IsCircuit}
 use Rattle.filling.specs.declared.ask.Circuit.{Circuit}
 use Rattle.builder.specs.Evenings.{Evaluates}

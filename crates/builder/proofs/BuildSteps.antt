@@ -8,7 +8,6 @@ use Rattle.tables.specs.declared.numbers.Refusal.{Refusal}
 use Rattle.tables.specs.declared.numbers.Refusal.TheVariants.{ShortBuffer}
 use Rattle.texts.specs.Buffer.{leaves}
 use Rattle.rules.specs.Rounds.{Outcome}
-use Rattle.rules.specs.Listing.{listing}
 use Rattle.rules.specs.Calls.{outcome_of, rounds_in, listed, build_verdict, build, build_listing}
 use Rattle.rules.specs.declared.book.Book.{Book}
 use Rattle.rules.specs.declared.built.Built.{Built}

@@ -9,7 +9,7 @@ use Rattle.tables.specs.Clause.{clauses}
 use Rattle.tables.proofs.Clauses.{All as EachLiteral}
 use Rattle.tables.specs.Check.{checked}
 use Rattle.rules.specs.Pins.{out_of_range}
-use Rattle.rules.specs.Rounds.{Outcome, impossible, settled, outcome, pinned}
+use Rattle.rules.specs.Rounds.{Outcome, settled, outcome, pinned}
 use Rattle.settling.proofs.Inside.{pinned_inside}
 use Rattle.settling.proofs.Bound.{Settled, Ends, outcome_ends}
 use Rattle.circuits.proofs.Order.{Ordered, next}
@@ -18,7 +18,6 @@ use Rattle.rules.specs.Patterns.{Gate}
 use Rattle.rules.specs.Taking.{allowed, taken}
 use Rattle.rules.specs.Listing.{listing}
 use Rattle.chains.specs.Ended.{Ended}
-use Rattle.rounds.proofs.SettleSteps.{few_variables}
 use Rattle.cleaning.proofs.LastEntries.{inside_entries, ended_last}
 use Rattle.rounds.proofs.RoundSteps.{all_inside}
 use Rattle.taking.specs.Settled.{IsSettled}

@@ -1,6 +1,6 @@
 -- A fill, step after step.
 use Rattle.std.proofs.Common.{◌≡◌, ◌∙◌, refl, sym, ap, ℕ, ◌||◌, List, [], ◌∷◌, ℤ, length, ltb}
-use Rattle.std.specs.Prelude.{Result, Ok, Err}
+use Rattle.std.specs.Prelude.{Ok, Err}
 use Rattle.tables.specs.Check.{checked}
 use Rattle.tables.specs.Numbers.{Verdict, refuse, first_refusal}
 use Rattle.tables.specs.declared.numbers.Refusal.{Refusal}

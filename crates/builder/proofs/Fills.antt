@@ -1,5 +1,5 @@
 -- A fill's values stand at the front of the buffer.
-use Rattle.std.proofs.Common.{◌≡◌, ◌∙◌, refl, sym, ap, ℕ, ◌≤◌, List, ◌++◌, length, drop}
+use Rattle.std.proofs.Common.{◌≡◌, refl, ℕ, List, ◌++◌, drop}
 use Rattle.texts.specs.Buffer.{front}
 use Rattle.rules.specs.Patterns.{Gate}
 use Rattle.rules.specs.Fill.{filled}

@@ -1,12 +1,12 @@
 -- The build program, step after step.
-use Rattle.std.proofs.Common.{◌≡◌, ◌∙◌, refl, sym, ap, subst, ℕ, ◌≤◌, List, [], ◌∷◌, ◌++◌, length, ltb, ltb-false, take, drop, ℤ, arith}
-use Rattle.std.specs.Prelude.{Result, Ok, Err}
+use Rattle.std.proofs.Common.{◌≡◌, ◌∙◌, refl, sym, ap, ℕ, ◌≤◌, List, [], ◌∷◌, length, ltb, ltb-false, take, drop, ℤ, arith}
+use Rattle.std.specs.Prelude.{Ok, Err}
 use Rattle.std.proofs.lemmas.List.{take_at, length-map}
 use Rattle.tables.specs.Sizes.{most_bytes, most_entries, work_room}
 use Rattle.tables.specs.declared.numbers.Refusal.{Refusal}
 use mathlib.Core.List.{Memᴰ}
 use Rattle.tables.specs.Check.{checked}
-use Rattle.tables.specs.Numbers.{refuse, first_refusal}
+use Rattle.tables.specs.Numbers.{refuse}
 use Rattle.tables.specs.declared.numbers.Refusal.TheVariants.{ShortBuffer}
 use Rattle.tables.proofs.Verdicts.{answered, all_accept, refuse_accepts}
 use Rattle.texts.specs.Header.{header}
@@ -18,7 +18,7 @@ use Rattle.texts.specs.declared.reading.Reading.{Reading}
 use Rattle.texts.proofs.Room.{verdict_fits, reading_whole}
 use Rattle.rules.specs.Listing.{line_x}
 use Rattle.rules.specs.Pins.{empty_book, book_long}
-use Rattle.rules.specs.Calls.{work_short, held_bad, contradiction, outcome_of, rounds_in, listed, build_verdict, build, build_listing}
+use Rattle.rules.specs.Calls.{work_short, held_bad, contradiction, outcome_of, listed, build_verdict, build, build_listing}
 use Rattle.rules.specs.Program.{printed, program_on, program}
 use Rattle.rules.specs.declared.built.Built.{Built}
 

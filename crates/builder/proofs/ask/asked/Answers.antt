@@ -1,5 +1,5 @@
 -- An ask, step after step.
-use Rattle.std.proofs.Common.{◌≡◌, ◌∙◌, sym, length}
+use Rattle.std.proofs.Common.{◌∙◌, sym, length}
 use Rattle.std.proofs.lemmas.Result.{err_from_is_err_and}
 use Rattle.builder.proofs.AskSteps.{table_refuses, range_refuses, tests_refuse, ask_decided}
 use Rattle.builder.proofs.ask.asked.Goals as goal

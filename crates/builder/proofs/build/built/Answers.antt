@@ -1,5 +1,5 @@
 -- A build, step after step.
-use Rattle.std.proofs.Common.{◌≡◌, ◌∙◌, sym, length}
+use Rattle.std.proofs.Common.{◌∙◌, sym, length}
 use Rattle.std.proofs.lemmas.Result.{err_from_is_err_and}
 use Rattle.builder.proofs.Tests.{table_refuses, tests_refuse}
 use Rattle.builder.proofs.BuildSteps.{more, build_refused, build_decided}

@@ -1,10 +1,8 @@
 -- The tests of the work buffer and the book, and the evening behind them.
-use Rattle.std.proofs.Common.{◌≡◌, ◌∙◌, refl, sym, ap, subst, ℕ, ◌+◌, ◌≤◌, length, arith}
+use Rattle.std.proofs.Common.{◌∙◌, sym, length, arith}
 use Rattle.std.proofs.lemmas.Result.{err_from_is_err_and}
-use Rattle.rules.specs.Rounds.{outcome, pinned}
 use Rattle.rounds.proofs.SettleSteps.{few_variables}
 use Rattle.builder.proofs.Tests.{tests_refused, comes_begins, work_fits, pins_fit}
-use Rattle.builder.specs.Evenings.{Comes, Begins}
 use Rattle.builder.proofs.evening.begin_evening.Goals as goal
 
 pub returns-in_err-open_book : goal.returns-in_err-open_book

@@ -1,9 +1,8 @@
 -- The rounds' answer, and what it says of the settled table.
-use Rattle.std.proofs.Common.{◌≡◌, ◌∙◌, refl, sym, ap, subst, ℕ, ◌≤◌, List, take, length, ℤ, arith}
+use Rattle.std.proofs.Common.{◌≡◌, ◌∙◌, refl, sym, ap, take, arith}
 use Rattle.std.proofs.lemmas.List.{length-take-le}
 use Rattle.std.proofs.lemmas.Result.{err_from_is_err_and}
 use Rattle.tables.specs.Clause.{clauses}
-use Rattle.rules.specs.Rounds.{outcome, pinned}
 use Rattle.rounds.proofs.SettleSteps.{few_variables}
 use Rattle.rounds.proofs.Outcomes.{accepted_outcome, refused_verdict}
 use Rattle.rules.specs.Taking.{taken}

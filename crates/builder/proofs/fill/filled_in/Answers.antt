@@ -1,5 +1,5 @@
 -- A fill, step after step.
-use Rattle.std.proofs.Common.{◌≡◌, ◌∙◌, sym, length}
+use Rattle.std.proofs.Common.{◌∙◌, sym, length}
 use Rattle.std.proofs.lemmas.Result.{err_from_is_err_and}
 use Rattle.builder.proofs.Tests.{table_refuses, tests_refuse}
 use Rattle.builder.proofs.FillSteps.{more, fill_refused, fill_decided}

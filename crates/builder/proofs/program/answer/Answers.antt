@@ -1,5 +1,5 @@
 -- The line of a refusal stands at the front.
-use Rattle.std.proofs.Common.{◌≡◌, ◌∙◌, refl, sym, ap, ℕ, ◌≤◌, length, take, arith}
+use Rattle.std.proofs.Common.{◌∙◌, sym, arith}
 use Rattle.builder.proofs.ProgramSteps.{line_front}
 use Rattle.builder.proofs.program.answer.Goals as goal
 

@@ -1,5 +1,5 @@
 -- The first bad variable is refused.
-use Rattle.std.proofs.Common.{◌≡◌, ◌∙◌, sym, arith}
+use Rattle.std.proofs.Common.{◌∙◌, sym, arith}
 use Rattle.builder.specs.Values.{is_bad}
 use Rattle.builder.proofs.BadValues.{first_bad}
 use Rattle.builder.proofs.values.check_values.Goals as goal
