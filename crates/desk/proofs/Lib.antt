@@ -1,0 +1,2 @@
+-- Laws of a line's words.
+pub mod LineWords

@@ -1,0 +1,2 @@
+-- What a line of the desk says.
+pub mod Names
