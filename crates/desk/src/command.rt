@@ -1,6 +1,7 @@
 // The command that a line says: a name, and what the name wants behind it.
-ghost use Rattle.std.specs.Prelude.{◌≡◌, ◌∷◌, [], MatchOption};
-ghost use Rattle.desk.specs.Names.{words};
+ghost use Rattle.std.specs.Prelude.{◌≡◌, ◌∷◌, [], MatchOption, IfSome, MatchResult, get_or};
+ghost use Rattle.desk.specs.Names.{name, words};
+ghost use Rattle.desk.specs.Commands.{verb_in, Misreads};
 
 use crate::verb::{Verb, verb_of};
 use tables::literal::entry;
@@ -52,7 +53,9 @@ impl<'a> Words<'a> {
 }
 
 /// What a name wants, out of the words behind it.
-fn wanted<'a>(verb: Verb, words: &mut Words<'a>) -> Option<Command<'a>> {
+fn wanted<'a>(verb: Verb, words: &mut Words<'a>) -> Option<Command<'a>>
+    ensures { IfSome result (λ command. verb_in command ≡ verb) }
+{
     Some(match verb {
         Verb::Pin => Command::Pin(entry(number(words.next_word()?)?)),
         Verb::Back => Command::Back,
@@ -63,8 +66,11 @@ fn wanted<'a>(verb: Verb, words: &mut Words<'a>) -> Option<Command<'a>> {
     })
 }
 
-/// The command that a line says.
-pub fn command_of(line: &[u8]) -> Result<Command<'_>, Misread> {
+/// The command that a line says: that of its first word. A line is misread only where that names none, or wants other words.
+pub fn command_of(line: &[u8]) -> Result<Command<'_>, Misread>
+    ensures { let first = get_or (words line.now) 0 [] in
+        MatchResult result (λ command. first ≡ name (verb_in command)) (λ why. Misreads why first) }
+{
     let mut words = Words { rest: line };
     let first = words.next_word().ok_or(Misread::Unknown)?;
     let verb = verb_of(first).ok_or(Misread::Unknown)?;
