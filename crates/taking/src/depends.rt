@@ -67,7 +67,7 @@ pub fn dependents(row: &[i32], sites: &[Site], variable: usize, marks: &mut [u8]
     depend(row, sites, marks);
 }
 
-/// Marks a variable that nothing but itself depends on.
+/// Marks a variable, and no other: what depends on one that no gate speaks of.
 pub fn alone(variable: usize, marks: &mut [u8])
     ensures { marks.new ≡ set (replicate (length marks.old) 0) variable 1 }
 {
