@@ -2,6 +2,7 @@
 pub mod PlaceSteps
 pub mod Placed
 pub mod Behind
+pub mod LeftOut
 pub mod Room
 pub mod TakeSteps
 pub mod Offers

@@ -1,6 +1,6 @@
 // What depends on a variable through the gates taken. The gates stand in an order of evaluation, so one walk finds all that
 // depends: a byte for each variable, 1 where it does.
-ghost use Rattle.std.specs.Prelude.{◌≡◌, ◌-◌, ◌≤◌, map, length, set};
+ghost use Rattle.std.specs.Prelude.{◌≡◌, ◌-◌, ◌≤◌, map, length, set, replicate};
 ghost use Rattle.std.specs.List.{All, fold, list_any};
 ghost use Rattle.tables.specs.Literal.{literal, var};
 ghost use Rattle.rules.specs.Forced.{marked};
@@ -65,4 +65,12 @@ pub fn dependents(row: &[i32], sites: &[Site], variable: usize, marks: &mut [u8]
     marks.fill(0);
     mark(marks, variable);
     depend(row, sites, marks);
+}
+
+/// Marks a variable, and no other: what depends on one that no gate speaks of.
+pub fn alone(variable: usize, marks: &mut [u8])
+    ensures { marks.new ≡ set (replicate (length marks.old) 0) variable 1 }
+{
+    marks.fill(0);
+    mark(marks, variable);
 }

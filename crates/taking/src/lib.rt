@@ -4,6 +4,7 @@
 pub mod anchor;
 pub mod candidates;
 pub mod depends;
+pub mod fresh;
 pub mod offer;
 pub mod place;
 pub mod put;

@@ -6,12 +6,15 @@ ghost use Rattle.tables.specs.Clause.{clauses};
 ghost use Rattle.circuits.proofs.Taken;
 ghost use Rattle.gates.specs.Sites.{Within, gates_of};
 ghost use Rattle.taking.specs.Settled.{IsSettled};
+ghost use Rattle.taking.specs.Fresh.{IsOut};
 
-use crate::depends::{dependents, is_touched};
+use crate::depends::{alone, dependents, is_touched};
+use crate::fresh::leave_all;
 use crate::put::put;
 use gates::outputs::is_output;
 use gates::site::Site;
 use patterns::index::Index;
+use rules::marks::is_marked;
 use tables::literal::var;
 use tables::sizes::{MOST_VARIABLES, VARIABLE_NUMBERS};
 
@@ -23,20 +26,23 @@ pub struct Taking<'a, 'i> {
     pub index: Index<'i>,
     pub sites: &'a mut [Site],
     pub count: usize,
+    /// The variables that no gate taken speaks of.
+    pub fresh: [u8; VARIABLE_NUMBERS],
     pub ghost small: { n ≤ MOST_VARIABLES },
     pub ghost room: { n ≤ length sites.now },
     pub ghost few: { count ≤ n },
     pub ghost settled: { ∥ IsSettled n (clauses index.row.now) ∥₁ },
     pub ghost within: { All (Within index.row.now) (take count sites.now) },
+    pub ghost out: { All (IsOut index.row.now fresh) (take count sites.now) },
     pub ghost taken: { ∥ Taken.Taken n (clauses index.row.now) (gates_of index.row.now (take count sites.now)) ∥₁ },
 }
 
 impl<'a, 'i> Taking<'a, 'i> {
-    ghost use Rattle.std.specs.Prelude.{◌≡◌, ◌+◌, ◌≤◌, [], ◌∷◌, length, take};
+    ghost use Rattle.std.specs.Prelude.{◌≡◌, ◌+◌, ◌≤◌, [], ◌∷◌, not, length, take};
     ghost use Rattle.std.specs.Bool.{OnTrue};
     ghost use Rattle.tables.specs.Literal.{var};
     ghost use Rattle.tables.specs.Clause.{clauses};
-    ghost use Rattle.rules.specs.Taking.{dependents};
+    ghost use Rattle.rules.specs.Taking.{dependents, is_output};
     ghost use Rattle.circuits.proofs.Taken.{Valid};
     ghost use Rattle.gates.specs.Sites.{Within, gate_of};
     ghost use Rattle.taking.specs.Settled.{IsSettled};
@@ -56,6 +62,7 @@ impl<'a, 'i> Taking<'a, 'i> {
             index,
             sites,
             count: 0,
+            fresh: [1; VARIABLE_NUMBERS],
         }
     }
 
@@ -64,6 +71,23 @@ impl<'a, 'i> Taking<'a, 'i> {
         ensures { result.now ≡ take self.now.count self.now.sites.now }
     {
         &self.sites[..self.count]
+    }
+
+    /// Marks what depends on a variable through the gates taken, if it is no output yet; whether it is none.
+    fn mark_dependents(&self, output: usize, marks: &mut [u8]) -> bool
+        requires marks { length marks.old ≡ self.now.n + 1 }
+        ensures is { result ≡ not (is_output (gates self.now) output) }
+        ensures walked { OnTrue result (marks.new ≡ dependents self.now.n (gates self.now) output) }
+    {
+        if is_marked(&self.fresh, output) {
+            alone(output, marks);
+            return true;
+        }
+        if is_output(self.taken(), output) {
+            return false;
+        }
+        dependents(self.index.row, self.taken(), output, marks);
+        true
     }
 
     /// Whether a gate is allowed: its output is no output yet, and no input depends on it through the gates taken. Where it is
@@ -75,11 +99,9 @@ impl<'a, 'i> Taking<'a, 'i> {
         ensures is { result ≡ may self.now (gates self.now) (gate_of (row self.now) site) }
         ensures walked { OnTrue result (marks.new ≡ dependents self.now.n (gates self.now) (var site.output)) }
     {
-        let output = var(site.output);
-        if is_output(self.taken(), output) {
+        if !self.mark_dependents(var(site.output), marks) {
             return false;
         }
-        dependents(self.index.row, self.taken(), output, marks);
         !is_touched(self.index.row, site, marks)
     }
 
@@ -94,7 +116,9 @@ impl<'a, 'i> Taking<'a, 'i> {
         if !self.is_allowed(site, marks) {
             return false;
         }
-        put(self.sites, self.count, site, marks);
+        let last = is_marked(&self.fresh, var(site.output));
+        put(self.sites, self.count, site, marks, last);
+        leave_all(self.index.row, site, &mut self.fresh);
         self.count += 1;
         true
     }
