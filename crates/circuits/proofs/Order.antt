@@ -28,6 +28,11 @@ pub data Ordered : List Gate → Type 0 where
   none : Ordered []
   next : {g : Gate} {gs : List Gate} → Apart g g → ((h : Gate) → Memᴰ h gs → Before g h) → Ordered gs → Ordered (g ∷ gs)
 
+self_of : {gs : List Gate} → Ordered gs → (h : Gate) → Memᴰ h gs → Apart h h
+self_of none h i = elim i [ ]
+self_of (next {g = g} s b o) h (Memᴰ.head e) = subst (λ k. Apart k k) (sym e) s
+self_of (next s b o) h (Memᴰ.tail i) = self_of o h i
+
 keep_ordered : (p : Gate → Bool) {gs : List Gate} → Ordered gs → Ordered (filter p gs)
 keep_ordered p none = none
 keep_ordered p (next {g = g} {gs = gs} s b o) =

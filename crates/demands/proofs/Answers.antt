@@ -3,7 +3,7 @@ use Rattle.std.proofs.Common.{◌≡◌, ℕ, Bool, true, false, not, ltb, List,
 use mathlib.Core.List.{Memᴰ}
 use Rattle.std.specs.List.{list_all}
 use Rattle.ways.proofs.Rows.{list_all-not}
-use Rattle.tables.specs.Numbers.{Verdict, number_of, place_of, answer_place, refuse, first_refusal}
+use Rattle.tables.specs.Numbers.{Verdict, number_of, place_of, refuse, first_refusal}
 use Rattle.tables.specs.Check.{checked}
 use Rattle.tables.specs.declared.numbers.Refusal.{Refusal}
 use Rattle.tables.specs.declared.numbers.Refusal.TheVariants.{Contradiction, OutOfRange, BookFull, ShortBuffer, ShortWork}
@@ -18,7 +18,7 @@ use Rattle.rules.specs.Calls.{work_short, held_bad, outcome_of, contradiction, r
 use Rattle.rules.specs.declared.book.Book.{Book}
 use Rattle.rules.specs.declared.built.Built.{Built}
 use Rattle.demands.specs.Answers.{AcceptedSettles, FourIsContradiction, RefusalKeeps}
-use Rattle.tables.proofs.Verdicts.{never, answered, refused, all_accept, refuse_accepts, refuse_number}
+use Rattle.tables.proofs.Verdicts.{never, answered, refused, same_place, all_accept, refuse_accepts, refuse_number}
 
 module _ (n : ℕ) (t : List ℤ) (b : Book) (work room : ℕ) where
   -- The tests of a build, by their places in the order of refusals.
@@ -61,17 +61,17 @@ unfolding first_refusal
 past (Ok _) vs why k e = (refl, e)
 past (Err r) vs why k e = absurd (k e)
 
-module _ (why : Refusal) (four : number_of why ≡ 4) where
-  other : (b : Bool) (r : Refusal) → (number_of r ≡ 4 → ⊥) → refuse b r ≡ Err why → ⊥
-  other b r k e = k (refuse_number b r why e ∙ four)
+other : (b : Bool) (r why : Refusal) → (number_of r ≡ number_of why → ⊥) → refuse b r ≡ Err why → ⊥
+other b r why k e = k (refuse_number b r why e)
 
+module _ (why : Refusal) (four : number_of why ≡ 4) where
   no_table : (n : ℕ) (t : List ℤ) → checked n t ≡ Err why → ⊥
   no_table n t e = ⊎_elim (λ (q : number_of why ≡ 2). omega (arith, q, four)) (λ (q : number_of why ≡ 3). omega (arith, q, four)) (refused_number n t why e)
 
   last : (o : Outcome) (full : Bool) (p : ℕ) → first_refusal (contradiction o ∷ refuse full (ShortBuffer p) ∷ []) ≡ Err why → o ≡ impossible (place_of why)
   unfolding contradiction first_refusal refuse
-  last (impossible s) full p k = ap (λ v. impossible (answer_place v)) k
-  last (settled s st cs) true p k = absurd (other true (ShortBuffer p) (λ q. omega (arith, q)) k)
+  last (impossible s) full p k = ap impossible (same_place (Err (Contradiction s)) why k)
+  last (settled s st cs) true p k = absurd (other true (ShortBuffer p) why (λ q. omega (arith, q, four)) k)
   last (settled s st cs) false p k = never tt why (sym k)
 
 pub four_is_contradiction : FourIsContradiction
@@ -80,9 +80,9 @@ four_is_contradiction n t b work room why e four =
     let bytes : ℕ = length (listed n (outcome_of n t b)) in
     let k : build_verdict n t b work room ≡ Err why = refused (build_verdict n t b work room) _ why e in
     let (good, k1) = past (checked n t) _ why (no_table why four n t) k in
-    let (roomy, k2) = past (work_short work) _ why (other why four _ ShortWork (λ q. omega (arith, q))) k1 in
-    let (short, k3) = past (book_long b) _ why (other why four _ BookFull (λ q. omega (arith, q))) k2 in
-    let (held, k4) = past (held_bad n b) _ why (other why four _ OutOfRange (λ q. omega (arith, q))) k3 in
+    let (roomy, k2) = past (work_short work) _ why (other _ ShortWork why (λ q. omega (arith, q, four))) k1 in
+    let (short, k3) = past (book_long b) _ why (other _ BookFull why (λ q. omega (arith, q, four))) k2 in
+    let (held, k4) = past (held_bad n b) _ why (other _ OutOfRange why (λ q. omega (arith, q, four))) k3 in
     (record { good = good; in_range = held_range n t b work room held }, last why four (outcome_of n t b) (ltb room bytes) bytes k4)
 
 -- A refusal leaves a buffer and a book as they were.

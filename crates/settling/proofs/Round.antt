@@ -204,13 +204,13 @@ module _ (n : ℕ) (st : List ℕ) (cs : List (List ℕ)) where
         back_to c i l k = replace-holds a s l (star g (var l) (ds_live c i l k).here)
 
       -- a contradiction has no model
-      no_empty : list_any empty cs ≡ true → satisfies_all a cs ≡ true → ⊥
+      pub no_empty : list_any empty cs ≡ true → satisfies_all a cs ≡ true → ⊥
       unfolding empty
       no_empty e h =
           let (c, i, q) = list_any-mem empty cs e in
           clash_of (sym (rw (nil_from_length c (eqb-true _ 0 q)) at (list_all-mem (satisfies a) cs h c i)))
 
-      no_clash : clash n m ≡ true → satisfies_all a cs ≡ true → ⊥
+      pub no_clash : clash n m ≡ true → satisfies_all a cs ≡ true → ⊥
       unfolding clash
       no_clash e h =
           let (v, i, q) = list_any-mem _ (range_with_len 1 n) e in

@@ -2,7 +2,7 @@
 use Rattle.std.proofs.Common.{◌≡◌, Bool, true, false, List, [], ◌∷◌, ◌++◌, is_ok, Ok, Err, Result, sym, refl, ap, true≢false}
 use mathlib.Core.List.{Memᴰ}
 use Rattle.std.specs.Result.{result_and}
-use Rattle.tables.specs.Numbers.{Verdict, number_of, answer_number, refuse, first_refusal}
+use Rattle.tables.specs.Numbers.{Verdict, number_of, place_of, answer_number, answer_place, refuse, first_refusal}
 use Rattle.tables.specs.declared.numbers.Refusal.{Refusal}
 
 pub never : {A T : Type 0} (x : T) (why : Refusal) → Err why ≡ Ok x → A
@@ -24,6 +24,9 @@ refused (Err r) x why e = let again : Refusal → Verdict = λ y. Err y in ap ag
     cause : {T : Type 0} → Refusal → Result T Refusal → Refusal
     cause r (Ok y) = r
     cause r (Err why) = why
+
+pub same_place : (v : Verdict) (why : Refusal) → v ≡ Err why → answer_place v ≡ place_of why
+same_place v why e = ap answer_place e
 
 pub all_accept : (vs : List Verdict) → first_refusal vs ≡ Ok tt → (v : Verdict) → Memᴰ v vs → v ≡ Ok tt
 unfolding first_refusal
