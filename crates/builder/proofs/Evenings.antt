@@ -21,6 +21,7 @@ use Rattle.chains.specs.Ended.{Ended}
 use Rattle.cleaning.proofs.LastEntries.{inside_entries, ended_last}
 use Rattle.rounds.proofs.RoundSteps.{all_inside}
 use Rattle.taking.specs.Settled.{IsSettled}
+use Rattle.taking.proofs.FromRounds.{settled_is}
 use Rattle.rules.specs.Calls.{rounds_in, stands_in, gates_in, listed, bad_values}
 use Rattle.ways.proofs.Rows.{mem-list_any}
 use Rattle.ways.proofs.Members.{get_or-mem, among-mem}
@@ -56,7 +57,7 @@ module _ (n : ℕ) (t pins : List ℤ) (good : checked n t ≡ Ok tt) (in_range 
   left_settled = ends.2
 
   pub left_proper : IsSettled n cs
-  left_proper = record { inside = λ c i l k. let (root, low, high) = left_settled.good.over c i l k in (low, high); proper = left_settled.proper }
+  left_proper = settled_is n st cs left_settled
 
   pub stands_long : length st ≡ n + 1
   stands_long = let s = left_settled.good.size in omega (arith, s)

@@ -1,7 +1,7 @@
 -- The build program, step after step.
 use Rattle.std.proofs.Common.{◌≡◌, ◌∙◌, refl, sym, ap, ℕ, ◌≤◌, List, [], ◌∷◌, length, ltb, ltb-false, take, drop, ℤ, arith}
 use Rattle.std.specs.Prelude.{Ok, Err}
-use Rattle.std.proofs.lemmas.List.{take_at, length-map}
+use Rattle.std.proofs.lemmas.List.{take_at}
 use Rattle.tables.specs.Sizes.{most_bytes, most_entries, work_room}
 use Rattle.tables.specs.declared.numbers.Refusal.{Refusal}
 use mathlib.Core.List.{Memᴰ}
@@ -10,12 +10,12 @@ use Rattle.tables.specs.Numbers.{refuse}
 use Rattle.tables.specs.declared.numbers.Refusal.TheVariants.{ShortBuffer}
 use Rattle.tables.proofs.Verdicts.{answered, all_accept, refuse_accepts}
 use Rattle.texts.specs.Header.{header}
-use Rattle.texts.specs.Body.{entries, entry_of}
+use Rattle.texts.specs.Body.{entries}
 use Rattle.texts.specs.Buffer.{front, leaves, overlay}
 use Rattle.texts.proofs.RowSteps.{overlay_front}
-use Rattle.texts.specs.Reading.{behind, verdict, reading, row_after}
+use Rattle.texts.specs.Reading.{behind, reading}
 use Rattle.texts.specs.declared.reading.Reading.{Reading}
-use Rattle.texts.proofs.Room.{verdict_fits, reading_whole}
+use Rattle.texts.proofs.Room.{reading_whole, verdict_is}
 use Rattle.rules.specs.Listing.{line_x}
 use Rattle.rules.specs.Pins.{empty_book, book_long}
 use Rattle.rules.specs.Calls.{work_short, held_bad, contradiction, outcome_of, listed, build_verdict, build, build_listing}
@@ -45,25 +45,9 @@ module _ (text : List ℕ) where
       omega (arith, fits, size)
 
   module _ (r : Reading) (ok : reading text most_entries ≡ Ok r) where
-    says : verdict text ≡ Ok r
-    says = sym (reading_whole text) ∙ ok
-
-    table_long : length table ≡ r.entries
-    table_long = length-map (behind text (header text)) entry_of ∙ (verdict_fits text r says).1
-
-    pub entries_fit : r.entries ≤ most_entries
-    entries_fit = (verdict_fits text r says).0
-
-    pub table_read : (row : List ℤ) → length row ≡ most_entries → take r.entries (row_after text row) ≡ table
-    unfolding row_after leaves front
-    table_read row long = rw (long, ok) (take_at table (drop (length table) row) r.entries table_long)
-
-    pub table_is : (row after part : List ℤ) → length row ≡ most_entries → after ≡ row_after text row → part ≡ take r.entries after → part ≡ table
-    table_is row after part long a p = p ∙ ap (take r.entries) a ∙ table_read row long
-
     prints : program text ≡ printed (listed r.variables (outcome_of r.variables table empty_book)) (build r.variables table empty_book work_room most_bytes)
     unfolding program program_on
-    prints = ap (program_on text) says
+    prints = ap (program_on text) (verdict_is text r ok)
 
     pub build_refused : (why : Refusal) → build r.variables table empty_book work_room most_bytes ≡ Err why → program text ≡ line_x why
     unfolding printed

@@ -1,1 +1,2 @@
--- The program has no words of its own.
+-- What the program makes of a text.
+pub mod Rewriting

@@ -2,7 +2,8 @@
 // and the place of what is wrong.
 #![tactic(auto)]
 
-ghost use Rattle.std.specs.Prelude.{◌≤◌, length, IfOk};
+ghost use Rattle.std.specs.Prelude.{◌≡◌, ◌≤◌, length, IfOk};
+ghost use Rattle.rewrite.specs.Rewriting.{rewriting, rewritten};
 
 use intake::fill;
 use std::io;
@@ -17,7 +18,9 @@ const MOST_WRITTEN: usize = 131_072;
 
 /// The text in written form, at the front of `out`; how many bytes it has.
 fn rewrite(text: &[u8], out: &mut [u8]) -> Result<usize, Refusal>
-    ensures { IfOk result (λ bytes. bytes ≤ length out.new) }
+    ensures is { result ≡ rewriting text.now (length out.old) }
+    ensures written { out.new ≡ rewritten text.now out.old }
+    ensures within { IfOk result (λ bytes. bytes ≤ length out.new) }
 {
     let mut row = [0i32; MOST_ENTRIES];
     let read = read(text, &mut row)?;

@@ -1,6 +1,7 @@
 -- A text that is accepted says no more entries than a table may have.
-use Rattle.std.proofs.Common.{◌≡◌, refl, sym, ap, ℕ, ◌+◌, ◌<◌, ◌≤◌, Bool, true, false, List, [], ◌∷◌, length, leb, ltb, eqb, leb-false, ltb-false, le-ltb, ℤ, Option, Some, None, Result, Ok, Err, arith}
+use Rattle.std.proofs.Common.{◌≡◌, ◌∙◌, refl, sym, ap, ℕ, ◌+◌, ◌<◌, ◌≤◌, Bool, true, false, List, [], ◌∷◌, length, leb, ltb, eqb, leb-false, ltb-false, le-ltb, take, drop, ℤ, Option, Some, None, Result, Ok, Err, arith}
 use Rattle.std.specs.Result.{result_and}
+use Rattle.std.proofs.lemmas.List.{take_at, length-map}
 use Rattle.tables.specs.Sizes.{most_bytes, most_entries, most_literals}
 use Rattle.tables.specs.Numbers.{Verdict, refuse, first_refusal}
 use Rattle.tables.specs.Check.{checked}
@@ -11,9 +12,10 @@ use Rattle.tables.proofs.Verdicts.{never, answered, refuse_accepts}
 use Rattle.texts.specs.Tokens.{Token, tokens_at}
 use Rattle.texts.specs.Numbers.{number}
 use Rattle.texts.specs.Header.{header}
-use Rattle.texts.specs.Body.{judged_number, body_from, entries}
+use Rattle.texts.specs.Body.{judged_number, body_from, entries, entry_of}
+use Rattle.texts.specs.Buffer.{front, leaves}
 use Rattle.texts.specs.Writing.{written, writing}
-use Rattle.texts.specs.Reading.{behind, judged, verdict, roomed, reading}
+use Rattle.texts.specs.Reading.{behind, judged, verdict, roomed, reading, row_after}
 use Rattle.texts.specs.declared.header.Header.{Header}
 use Rattle.texts.specs.declared.reading.Reading.{Reading}
 
@@ -86,6 +88,25 @@ reading_whole t = go (verdict t) refl
     go : (v : Result Reading Refusal) → verdict t ≡ v → roomed most_entries v ≡ v
     go (Ok r) e = rw (le-ltb most_entries r.entries (verdict_fits t r e).0) refl
     go (Err why) e = refl
+
+-- The table of a text, read into a row that has room for every table.
+module _ (text : List ℕ) (r : Reading) (ok : reading text most_entries ≡ Ok r) where
+  pub verdict_is : verdict text ≡ Ok r
+  verdict_is = sym (reading_whole text) ∙ ok
+
+  table_long : length (entries (behind text (header text))) ≡ r.entries
+  table_long = length-map (behind text (header text)) entry_of ∙ (verdict_fits text r verdict_is).1
+
+  pub entries_fit : r.entries ≤ most_entries
+  entries_fit = (verdict_fits text r verdict_is).0
+
+  pub table_read : (row : List ℤ) → length row ≡ most_entries → take r.entries (row_after text row) ≡ entries (behind text (header text))
+  unfolding row_after leaves front
+  table_read row long =
+      let table = entries (behind text (header text)) in rw (long, ok) (take_at table (drop (length table) row) r.entries table_long)
+
+  pub table_is : (row after part : List ℤ) → length row ≡ most_entries → after ≡ row_after text row → part ≡ take r.entries after → part ≡ entries (behind text (header text))
+  table_is row after part long a p = p ∙ ap (take r.entries) a ∙ table_read row long
 
 -- What an accepted reading or writing has room for.
 pub read_within : (text : List ℕ) (room : ℕ) (r : Reading) → reading text room ≡ Ok r → r.entries ≤ room

@@ -1,7 +1,8 @@
 -- The build program, step after step.
 use Rattle.std.proofs.Common.{◌∙◌, refl, sym, arith}
 use Rattle.std.proofs.lemmas.Result.{err_from_is_err_and}
-use Rattle.builder.proofs.ProgramSteps.{read_refused, entries_fit, table_is, build_refused, build_printed, bytes_fit}
+use Rattle.texts.proofs.Room.{entries_fit, table_is}
+use Rattle.builder.proofs.ProgramSteps.{read_refused, build_refused, build_printed, bytes_fit}
 use Rattle.builder.proofs.program.build_text.Goals as goal
 
 pub returns-in_err-read : goal.returns-in_err-read
