@@ -1,8 +1,9 @@
 -- A line's words one after another: where a token stands changes nothing of its bytes.
-use Rattle.std.proofs.Common.{◌≡◌, ◌∙◌, ℕ, zero, suc, ◌+◌, Bool, true, false, List, [], ◌∷◌, map, drop, take, refl, ap}
+use Rattle.std.proofs.Common.{◌≡◌, ◌∙◌, ℕ, zero, suc, ◌+◌, Bool, true, false, List, [], ◌∷◌, map, drop, take, refl, ap, None}
 use Rattle.std.specs.List.{slice_range}
 use Rattle.texts.specs.Bytes.{blank, word}
 use Rattle.texts.specs.Tokens.{Token, tokens_from, tokens_at}
+use Rattle.texts.specs.Numbers.{natural, number, plain, minus}
 use Rattle.texts.specs.Span.{token_in}
 use Rattle.texts.specs.declared.tokens.Span.{Span}
 use Rattle.desk.specs.Names.{words}
@@ -30,3 +31,12 @@ no_words line e = ap (map bytes) e
 
 pub one_word : (line rest : List ℕ) (s : Span) → tokens_at 0 line ≡ token_in line s ∷ tokens_at s.end line → rest ≡ drop s.end line → words line ≡ slice_range line s.start s.end ∷ words rest
 one_word line rest s e d = rw d (ap (map bytes) e ∙ ap (λ ws. slice_range line s.start s.end ∷ ws) (moved 0 s.end 0 (drop s.end line)))
+
+-- The empty word is no number.
+pub no_variable : natural [] ≡ None
+unfolding natural
+no_variable = refl
+
+pub no_literal : number [] ≡ None
+unfolding number plain minus natural
+no_literal = refl

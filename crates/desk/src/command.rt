@@ -1,7 +1,8 @@
 // The command that a line says: a name, and what the name wants behind it.
-ghost use Rattle.std.specs.Prelude.{◌≡◌, ◌∷◌, [], MatchOption, IfSome, MatchResult, get_or};
+ghost use Rattle.std.specs.Prelude.{◌≡◌, ◌∷◌, [], MatchOption, MatchResult, get_or, drop};
 ghost use Rattle.desk.specs.Names.{name, words};
-ghost use Rattle.desk.specs.Commands.{verb_in, Misreads};
+ghost use Rattle.desk.specs.declared.command.Command.{Command};
+ghost use Rattle.desk.specs.Commands.{verb_in, most_words, to_come, Begins, Says, Misreads};
 
 use crate::verb::{Verb, verb_of};
 use tables::literal::entry;
@@ -38,7 +39,7 @@ impl<'a> Words<'a> {
     /// Takes the next word.
     #[tactic(auto, using(crate::proofs::LineWords::no_words, crate::proofs::LineWords::one_word))]
     fn next_word(&mut self) -> Option<&'a [u8]>
-        ensures { MatchOption result (words self.old.rest.now ≡ []) (λ word. words self.old.rest.now ≡ word.now ∷ words self.new.rest.now) }
+        ensures { MatchOption result ((words self.old.rest.now ≡ []) × (words self.new.rest.now ≡ [])) (λ word. words self.old.rest.now ≡ word.now ∷ words self.new.rest.now) }
     {
         let token = next_token(self.rest, 0)?;
         let word = bytes_of(self.rest, token);
@@ -47,14 +48,20 @@ impl<'a> Words<'a> {
     }
 
     /// Takes the next word as values: none stand where the line ends.
-    fn next_values(&mut self) -> &'a [u8] {
+    fn next_values(&mut self) -> &'a [u8]
+        ensures values { result.now ≡ get_or (words self.old.rest.now) 0 [] }
+        ensures left { words self.new.rest.now ≡ drop 1 (words self.old.rest.now) }
+    {
         self.next_word().unwrap_or(&[])
     }
 }
 
 /// What a name wants, out of the words behind it.
+#[tactic(auto, using(crate::proofs::LineWords::no_variable, crate::proofs::LineWords::no_literal))]
 fn wanted<'a>(verb: Verb, words: &mut Words<'a>) -> Option<Command<'a>>
-    ensures { IfSome result (λ command. verb_in command ≡ verb) }
+    ensures { let behind = to_come words.old in
+        MatchOption result ((command : Command) → verb_in command ≡ verb → ¬ (Begins command behind))
+        (λ command. (verb_in command ≡ verb) × Begins command behind × (to_come words.new ≡ drop (most_words verb) behind)) }
 {
     Some(match verb {
         Verb::Pin => Command::Pin(entry(number(words.next_word()?)?)),
@@ -68,8 +75,8 @@ fn wanted<'a>(verb: Verb, words: &mut Words<'a>) -> Option<Command<'a>>
 
 /// The command that a line says: that of its first word. A line is misread only where that names none, or wants other words.
 pub fn command_of(line: &[u8]) -> Result<Command<'_>, Misread>
-    ensures { let first = get_or (words line.now) 0 [] in
-        MatchResult result (λ command. first ≡ name (verb_in command)) (λ why. Misreads why first) }
+    ensures { let first = get_or (words line.now) 0 [] in let behind = drop 1 (words line.now) in
+        MatchResult result (λ command. (first ≡ name (verb_in command)) × Says command behind) (λ why. Misreads why first behind) }
 {
     let mut words = Words { rest: line };
     let first = words.next_word().ok_or(Misread::Unknown)?;

@@ -1,10 +1,10 @@
 // The desk: the clause file that the argument names, and commands on standard input, one a line. Each is answered on standard
 // output, in one line, or in the listing's lines, until the input ends.
 //
-// Proved here: which of the six commands a line's first word names, and that a line's words are its tokens. The moves are those
-// of `nights`, and the listing, the fill and the ask those of `builder`, each proved there to answer what the definitions say. Not
-// proved: what comes from the file and from standard input, and what is printed. The arguments are the library's own copies;
-// nothing else is on the heap.
+// Proved here: which of the six commands a line's first word names, what it is told by the words behind it, and that a line's
+// words are its tokens. The moves are those of `nights`, and the listing, the fill and the ask those of `builder`, each proved
+// there to answer what the definitions say. Not proved: what comes from the file and from standard input, and what is printed.
+// The arguments are the library's own copies; nothing else is on the heap.
 #![tactic(auto)]
 
 mod command;
