@@ -1,5 +1,5 @@
 // What the build program prints.
-ghost use Rattle.std.specs.Prelude.{◌≡◌, ◌≢◌, length, take};
+ghost use Rattle.std.specs.Prelude.{◌≡◌, ◌≢◌, ◌≤◌, length, take};
 ghost use Rattle.tables.specs.Sizes.{most_bytes};
 ghost use Rattle.tables.specs.declared.numbers.Refusal.TheVariants.{ShortBuffer};
 ghost use Rattle.rules.specs.Program.{program};
@@ -16,7 +16,7 @@ use tables::sizes::MOST_BYTES;
 #[unsafe(no_mangle)]
 pub extern "C" fn choptimber_program(text: &[u8], out: &mut [u8]) -> Answer
     ensures is { length out.old ≡ most_bytes → (result.number ≡ 0) × (take result.first out.new ≡ program text.now) }
-    ensures told { length out.old ≡ most_bytes → result ≡ accepted result.first 0 }
+    ensures told { length out.old ≡ most_bytes → (result ≡ accepted result.first 0) × (result.first ≤ length out.new) }
     ensures refused { length out.old ≢ most_bytes → (result ≡ refused (ShortBuffer most_bytes)) × (out.new ≡ out.old) }
     ensures sized { result.number ≡ 0 → length out.old ≡ most_bytes }
 {
